@@ -1,0 +1,95 @@
+// Numbers of a script and a log, read and written at a place of a slice. `specs/Number.antt` says what
+// a number's bytes are.
+ghost use mathlib.Core.Path.{_≡_};
+ghost use Prim.Native.Nat.{_<_, _≤_};
+ghost use lib.ListN.{length, getD};
+ghost use Rattle.number.specs.Number.{encode, readFrom, readAt, written, writtenAt};
+
+// A number that is read takes at most so many groups of seven bits.
+const GROUPS: usize = 3;
+
+// What stands at a place: a number, with the place after it; or bytes that are no number.
+pub enum Reading {
+    Number(u32, usize),
+    Bad,
+}
+
+// What came of a write: the place after the number; or there was no room, and nothing is written.
+pub enum Written {
+    End(usize),
+    Full,
+}
+
+// A byte of a slice, widened: a caller learns its range, and owes only the index.
+fn byte(s: &[u8], i: usize) -> u32
+    requires { ⌜ i < length (now s) ⌝ }
+    ensures { λ r. ⌜ r ≡ getD (now (s .entry)) i 0 ⌝ }
+    ensures { λ r. ⌜ r < 256 ⌝ }
+{
+    s[i] as u32
+}
+
+// A number of at most `groups` groups. Four groups, 28 bits, fit a u32.
+fn read_groups(s: &[u8], at: usize, groups: usize) -> Reading
+    requires { ⌜ groups ≤ 4 ⌝ }
+    ensures { λ r. ⌜ r ≡ readFrom groups (now (s .entry)) at ⌝ }
+{
+    if groups == 0 {
+        return Reading::Bad;
+    }
+    if s.len() <= at {
+        return Reading::Bad;
+    }
+    let b = byte(s, at);
+    if b < 128 {
+        return Reading::Number(b, at + 1);
+    }
+    let Reading::Number(x, end) = read_groups(s, at + 1, groups - 1) else {
+        return Reading::Bad;
+    };
+    // Higher groups that come to 0 add nothing: this is not the shortest form.
+    if x == 0 {
+        return Reading::Bad;
+    }
+    Reading::Number(b - 128 + 128 * x, end)
+}
+
+// What stands at `at`, which may lie past the end.
+pub fn read(s: &[u8], at: usize) -> Reading
+    ensures { λ r. ⌜ r ≡ readAt (now (s .entry)) at ⌝ }
+{
+    read_groups(s, at, GROUPS)
+}
+
+// How many groups x takes.
+fn size(x: u32) -> usize
+    ensures { λ r. ⌜ r ≡ length (encode x) ⌝ }
+{
+    if x < 128 {
+        return 1;
+    }
+    1 + size(x / 128)
+}
+
+// Writes x at `at`, whether or not `read` takes as many groups. The room is tested first, so that
+// nothing is written where x does not fit.
+pub fn write(log: &mut [u8], at: usize, x: u32) -> Written
+    ensures { λ r. ⌜ r ≡ writtenAt (now (log .entry)) at x ⌝ }
+    ensures { λ _. ⌜ now (log .exit) ≡ written (now (log .entry)) at x ⌝ }
+{
+    if log.len() < at {
+        return Written::Full;
+    }
+    if log.len() - at < size(x) {
+        return Written::Full;
+    }
+    let mut i = at;
+    let mut rest = x;
+    while 128 <= rest {
+        log[i] = (rest % 128 + 128) as u8;
+        rest = rest / 128;
+        i += 1;
+    }
+    log[i] = rest as u8;
+    Written::End(i + 1)
+}

@@ -1,0 +1,231 @@
+//! Random scripts of every shape: chains, balanced and random trees, windows of every kind, negated leaves,
+//! all directions, repeats, requests between joins, with and without a close; and damaged copies.
+
+use crate::{
+    desk::play,
+    format::{put, Case, Command, Reader, Side},
+    random::Random,
+};
+
+pub const WHOLE_LOG: u32 = 65_536;
+
+/// A script being written, with the lengths of its nodes and those that no join has taken.
+struct Draft {
+    script: Vec<u8>,
+    lengths: Vec<u32>,
+    free: Vec<u32>,
+}
+
+impl Draft {
+    fn command(&mut self, command: Command) {
+        command.put(&mut self.script);
+    }
+
+    /// A free node, which is free no longer.
+    fn take(&mut self, place: usize) -> u32 {
+        self.free.remove(place)
+    }
+
+    fn window(&self, random: &mut Random, node: u32) -> Side {
+        let length = self.lengths[node as usize];
+        let offset = if random.chance(30) { 0 } else { random.from(0, length - 1) };
+        let limit = if random.chance(40) { 0 } else { random.from(1, length - offset) };
+        let hides_nothing = offset == 0 && limit == length;
+        Side { node, offset, limit: if hides_nothing { 0 } else { limit } }
+    }
+
+    fn join(&mut self, random: &mut Random, left: u32, right: u32, windows: u32) {
+        let [l, r] = [left, right].map(|node| {
+            if random.chance(windows) {
+                self.window(random, node)
+            } else {
+                Side { node, offset: 0, limit: 0 }
+            }
+        });
+        let length = |s: Side| match s.limit {
+            0 => self.lengths[s.node as usize] - s.offset,
+            limit => limit,
+        };
+        let joined = length(l) + length(r);
+        self.command(Command::Join(l, r));
+        self.free.push(self.lengths.len() as u32);
+        self.lengths.push(joined);
+    }
+
+    fn request(&mut self, random: &mut Random, node: u32) {
+        let value = random.from(1, self.lengths[node as usize]);
+        let direction = random.from(1, 3);
+        self.command(Command::Request { node, value, direction });
+    }
+
+    /// Every output of a node, in a random order, with repeats.
+    fn request_all(&mut self, random: &mut Random, node: u32) {
+        let length = self.lengths[node as usize];
+        let mut left: Vec<u32> = (1..=length).collect();
+        while !left.is_empty() {
+            let value = left.remove(random.from(0, left.len() as u32 - 1) as usize);
+            let direction = random.pick(&[1, 2, 3, 3]);
+            self.command(Command::Request { node, value, direction });
+            if random.chance(10) {
+                self.command(Command::Request { node, value, direction: random.from(1, 3) });
+            }
+        }
+    }
+}
+
+fn head_number(random: &mut Random, least: u32) -> u32 {
+    match random.from(0, 9) {
+        0 => random.pick(&[1_000_000, 999_999]),
+        1 => random.pick(&[127, 128, 16_383, 16_384]).max(least),
+        2 => random.from(least, 1_000_000),
+        _ => least + random.from(0, 3),
+    }
+}
+
+/// Leaves on different variables below the first output variable, some of them repeated.
+fn leaves(random: &mut Random, draft: &mut Draft, count: u32, first_variable: u32) {
+    let negated = random.pick(&[0, 30, 50, 100]);
+    let mut used = vec![];
+    while draft.lengths.len() < count as usize {
+        let variable = if first_variable < 2 * count {
+            random.from(0, first_variable - 1)
+        } else {
+            random.from(0, 2 * count - 1) + random.pick(&[0, 0, first_variable - 2 * count])
+        };
+        if used.contains(&variable) {
+            continue;
+        }
+        used.push(variable);
+        let literal = 2 * variable + u32::from(random.chance(negated));
+        draft.command(Command::Leaf(literal));
+        if random.chance(5) {
+            draft.command(Command::Leaf(literal));
+        }
+        draft.free.push(draft.lengths.len() as u32);
+        draft.lengths.push(1);
+    }
+}
+
+/// An undamaged script over at most so many leaves.
+pub fn script(random: &mut Random, most_leaves: u32) -> Vec<u8> {
+    let small = most_leaves.min(8);
+    let count = if random.chance(70) { random.from(1, small) } else { random.from(1, most_leaves) };
+    let first_variable = head_number(random, count);
+    let mut draft = Draft { script: vec![], lengths: vec![], free: vec![] };
+    put(&mut draft.script, first_variable);
+    let first_step = head_number(random, 1);
+    put(&mut draft.script, first_step);
+
+    leaves(random, &mut draft, count, first_variable);
+    let windows = random.pick(&[0, 0, 20, 50, 90]);
+    let between = random.pick(&[0, 0, 10, 40]);
+    let shape = random.from(0, 2);
+    while draft.free.len() > 1 && !random.chance(2) {
+        let last = draft.free.len() - 1;
+        let (first, second) = match shape {
+            0 if random.chance(50) => (last, 0),
+            0 => (0, last - 1),
+            1 => (0, 0),
+            _ => (random.from(0, last as u32) as usize, random.from(0, last as u32 - 1) as usize),
+        };
+        let left = draft.take(first);
+        let right = draft.take(second);
+        draft.join(random, left, right, windows);
+        if random.chance(between) {
+            let node = random.from(0, draft.lengths.len() as u32 - 1);
+            draft.request(random, node);
+        }
+    }
+
+    let root = draft.lengths.len() as u32 - 1;
+    match random.from(0, 5) {
+        0 => (),
+        1 => draft.request(random, root),
+        2 if count <= 20 => draft.request_all(random, root),
+        3 if count <= 12 => (0..=root).rev().for_each(|node| draft.request_all(random, node)),
+        _ => {
+            for _ in 0..random.from(1, 6) {
+                let node = if random.chance(50) { root } else { random.from(0, root) };
+                draft.request(random, node);
+            }
+        }
+    }
+    if random.chance(40) {
+        draft.command(Command::Close);
+    }
+    draft.script
+}
+
+/// A script of 64 leaves with the head's numbers as large as they may be.
+pub fn large_script(random: &mut Random) -> Vec<u8> {
+    let mut draft = Draft { script: vec![], lengths: vec![], free: vec![] };
+    put(&mut draft.script, 1_000_000);
+    put(&mut draft.script, 1_000_000);
+    leaves(random, &mut draft, 64, 1_000_000);
+    let chain = random.chance(50);
+    while draft.free.len() > 1 {
+        let left = draft.take(if chain { draft.free.len() - 1 } else { 0 });
+        let right = draft.take(0);
+        let windows = random.pick(&[0, 10]);
+        draft.join(random, left, right, windows);
+    }
+    let root = draft.lengths.len() as u32 - 1;
+    let value = random.pick(&[1, 2, draft.lengths[root as usize]]);
+    let direction = random.from(1, 2);
+    draft.command(Command::Request { node: root, value, direction });
+    draft.script
+}
+
+/// A bit flipped, a byte changed, added or dropped, the end cut off, or a part doubled.
+pub fn damaged(random: &mut Random, script: &[u8]) -> Vec<u8> {
+    let mut bytes = script.to_vec();
+    for _ in 0..random.from(1, 3) {
+        if bytes.is_empty() {
+            break;
+        }
+        let at = random.from(0, bytes.len() as u32 - 1) as usize;
+        match random.from(0, 6) {
+            0 => bytes[at] ^= 1 << random.from(0, 7),
+            1 => bytes[at] = random.from(0, 255) as u8,
+            2 => bytes[at] = random.from(0, 5) as u8,
+            3 => bytes.insert(at, random.from(0, 8) as u8),
+            4 => drop(bytes.remove(at)),
+            5 => bytes.truncate(at),
+            _ => bytes.extend(bytes[at..].to_vec()),
+        }
+    }
+    bytes
+}
+
+/// Capacities around the length that the script's whole log takes, others, and now and then one past 65,536.
+pub fn capacity(random: &mut Random, script: &[u8]) -> u32 {
+    match random.from(0, 99) {
+        0..=79 => WHOLE_LOG,
+        80..=94 => {
+            let whole = play(&Case { script: script.to_vec(), capacity: WHOLE_LOG });
+            (whole.length + random.from(0, 4)).saturating_sub(2).min(WHOLE_LOG)
+        }
+        95..=98 => random.from(0, 400),
+        _ => WHOLE_LOG + random.from(1, 3),
+    }
+}
+
+pub fn case(random: &mut Random, most_leaves: u32) -> Case {
+    let mut script = if random.chance(2) && most_leaves == 64 {
+        large_script(random)
+    } else {
+        script(random, most_leaves)
+    };
+    if random.chance(25) {
+        script = damaged(random, &script);
+    }
+    let capacity = capacity(random, &script);
+    Case { script, capacity }
+}
+
+/// The first step number of a script whose head reads.
+pub fn first_step(script: &[u8]) -> Option<u32> {
+    let mut reader = Reader { rest: script };
+    reader.number()?;
+    reader.number()
+}

@@ -1,0 +1,1 @@
+//! Declared by `encodings.rs`; nothing here uses it.
