@@ -1,0 +1,19 @@
+-- Theorems about definitions, clauses and requests.
+pub mod Totalizer
+pub mod WindowSums
+pub mod Derivations
+pub mod WindowDerivations
+pub mod ClauseDerivations
+pub mod Rules
+pub mod Apart
+pub mod Tables
+pub mod Distinct
+pub mod Fits
+pub mod Serving
+pub mod Counts
+pub mod Known
+pub mod Sides
+pub mod SideTokens
+pub mod Schema
+pub mod SchemaCases
+pub mod Cases

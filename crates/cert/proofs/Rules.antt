@@ -1,0 +1,266 @@
+-- The rules of requests and definitions: needs are at lower nodes, and no later node changes what a request needs, looks up and writes.
+use Prim.Native.Nat.{ℕ, zero, suc, _+_, _-_, _*_, _≤_, _<_}
+use mathlib.Core.Path.{_≡_, refl, sym, _∙_, ap, subst}
+use mathlib.Core.Logic.{⊎-elim, dite}
+use mathlib.Core.List.{List, [], _++_, map, flatMap, List·Memᴰ, List·Memᴰ·not-nil, List·Memᴰ·append-cases, List·Memᴰ·cases-cons, List·Memᴰ·eq-of-singleton, Memᴰ·of-map}
+use native.Mathlib.Omega.{arith}
+use native.Mathlib.Decide.{decLe}
+use lib.ListN.{length, length-append, List·getD-append}
+use Rattle.memo.proofs.Grow.{World, Grows}
+use Rattle.memo.proofs.Lists.{map-agree, of-flatMap}
+use Rattle.memo.proofs.Serve.{Falls}
+use Rattle.totdb.specs.Nodes.{Node, leaf, join, at, Side, sideLen, sideLit, sideOutputs, range, sideLeaves, plainOr, leaves, len}
+use Rattle.cert.specs.Definitions.{Key, real, window-zero, window, pulls, Direction, Definition, stored, oneDef, if, only-if, lacking, realDef, windowDef, longDef, sideDef}
+use Rattle.cert.specs.Equal.{keyRank}
+use Rattle.cert.specs.Requests.{Request, clausesOf, Clause, looksOf, nodeOf, needs, needsAt, below, request, named, keyOf, clausesAt, ifClause, onlyIfClause, splits, negPart, posPart, literalsOf, lookups}
+
+-- A table is well made where the sides of each join are at lower nodes.
+unfoldable pub Below : ℕ → Node → Type 0
+Below n (leaf a) = Unit {0}
+Below n (join ls o l r) = (l .node < n) × (r .node < n)
+
+unfoldable pub Ok : List Node → Type 0
+Ok t = (n : ℕ) → n < length t → Below n (at t n)
+
+unfoldable pub In : List Node → Request → Type 0
+In t x = nodeOf x < length t
+
+unfoldable pub keyNode : Key → ℕ
+keyNode (real n v) = n
+keyNode (window-zero n f k) = n
+keyNode (window n f k) = n
+
+unfoldable pub KeyIn : List Node → Key → Type 0
+KeyIn t k = keyNode k < length t
+
+-- The counters, as `Grow` asks for them; the sums are left out.
+abbrev pub counters : World Node Request Key (List ℕ) ℕ
+counters = record {
+  rules = λ t. record { needs = needs t; lookups = lookups t; group = literalsOf t; pulls = pulls; sums = λ k. [] };
+  Ok = Ok;
+  In =
+      In;
+  KeyIn = KeyIn;
+}
+
+-- Later nodes change no earlier one.
+pub at-more : (t u : List Node) (n : ℕ) → n < length t → at t n ≡ at (t ++ u) n
+unfolding at
+at-more t u n h = sym (List·getD-append t u (leaf 0) n h)
+
+pub sideLen-more : (t u : List Node) (s : Side) → s .node < length t → sideLen t s ≡ sideLen (t ++ u) s
+unfolding sideLen
+sideLen-more t u s h = rw (at-more t u (s .node) h)
+
+pub sideLit-more : (t u : List Node) (s : Side) (i : ℕ) → s .node < length t → sideLit t s i ≡ sideLit (t ++ u) s i
+unfolding sideLit
+sideLit-more t u s i h = rw (at-more t u (s .node) h)
+
+sideOutputs-more : (t u : List Node) (s : Side) → s .node < length t → sideOutputs t s ≡ sideOutputs (t ++ u) s
+unfolding sideOutputs
+sideOutputs-more t u s h = map-agree {f = sideLit t s} {g = sideLit (t ++ u) s} (range 1 (sideLen t s)) (λ i m. sideLit-more t u s i h)
+    ∙ ap (λ (m : ℕ). map (sideLit (t ++ u) s) (range 1 m)) (sideLen-more t u s h)
+
+pub sideLeaves-more : (t u : List Node) (s : Side) → s .node < length t → sideLeaves t s ≡ sideLeaves (t ++ u) s
+unfolding sideLeaves
+sideLeaves-more t u s h =
+    ap (λ (a : Node). plainOr (s .offset) (s .limit) (leaves a) (sideOutputs t s)) (at-more t u (s .node) h)
+    ∙ ap (plainOr (s .offset) (s .limit) (leaves (at (t ++ u) (s .node)))) (sideOutputs-more t u s h)
+
+-- The sides of a node of a well made table.
+pub sides-in : (t : List Node) → Ok t → (n : ℕ) → n < length t → Below (length t) (at t n)
+unfolding Ok Below
+sides-in t ok n h = up (at t n) (ok n h)
+  where
+    up : (a : Node) → Below n a → Below (length t) a
+    up (leaf a) b = tt
+    up (join ls o l r) b = omega arith
+
+ok-less : (t u : List Node) → Ok (t ++ u) → Ok t
+unfolding Ok
+ok-less t u ok n h = rw (at-more t u n h) (ok n (omega (arith, length-append t u)))
+
+needs-under : (t : List Node) (a : Node) (v : ℕ) (d : Direction) (k : ℕ) (y : Request) → Below k a → List·Memᴰ y (needsAt t a v d) → nodeOf y < k
+unfolding needsAt Below below nodeOf
+needs-under t (leaf a) v d k y b m = absurd (List·Memᴰ·not-nil m)
+needs-under t (join ls o l r) v d k y b m =
+    ⊎-elim
+    (λ h. let i = Memᴰ·of-map (λ (i : ℕ). request (l .node) (l .offset + i) d) (named d v (sideLen t l) (sideLen t r)) h in
+    subst (λ (z : Request). nodeOf z < k) (i .2) (b .0))
+    (λ h. let i = Memᴰ·of-map (λ (i : ℕ). request (r .node) (r .offset + i) d) (named d v (sideLen t r) (sideLen t l)) h in
+    subst (λ (z : Request). nodeOf z < k) (i .2) (b .1))
+    (List·Memᴰ·append-cases (below d l (named d v (sideLen t l) (sideLen t r))) m)
+
+needs-more : (t u : List Node) → Ok t → (x : Request) → In t x → needs t x ≡ needs (t ++ u) x
+unfolding needs In nodeOf needsAt Below
+needs-more t u ok (request n v d) i = rw (← at-more t u n i) (go (at t n) (sides-in t ok n i))
+  where
+    go : (a : Node) → Below (length t) a → needsAt t a v d ≡ needsAt (t ++ u) a v d
+    go (leaf a) b = refl
+    go (join ls o l r) b = rw (sideLen-more t u l (b .0), sideLen-more t u r (b .1))
+
+-- ---- the keys of a request's definitions are at its node and at its sides'
+
+abbrev AtNode : ℕ → Definition → Type 0
+AtNode n d = (k : Key) → List·Memᴰ k (keyOf d) → keyNode k ≡ n
+
+one-node : (n : ℕ) (k : Key) (i : ℕ) → keyNode k ≡ n → AtNode n (stored k i)
+unfolding keyOf
+one-node n k i e j m = ap keyNode (List·Memᴰ·eq-of-singleton m) ∙ e
+
+oneDef-node : (n o i : ℕ) (d : Direction) → AtNode n (oneDef o i d)
+unfolding oneDef keyOf
+oneDef-node n o zero if k m = absurd (List·Memᴰ·not-nil m)
+oneDef-node n o zero only-if k m = absurd (List·Memᴰ·not-nil m)
+oneDef-node n o (suc zero) d k m = absurd (List·Memᴰ·not-nil m)
+oneDef-node n o (suc (suc i)) if k m = absurd (List·Memᴰ·not-nil m)
+oneDef-node n o (suc (suc i)) only-if k m = absurd (List·Memᴰ·not-nil m)
+
+or-lacking : (n : ℕ) {P : Type 0} (c : Dec P) (e : Definition) → AtNode n e → AtNode n (dite c (λ _. e) (λ _. lacking))
+unfolding keyOf
+or-lacking n (yes p) e h = h
+or-lacking n (no p) e h = λ k m. absurd (List·Memᴰ·not-nil m)
+
+realDef-node : (m n v : ℕ) (d : Direction) → AtNode n (realDef m n v d)
+unfolding realDef keyNode keyOf
+realDef-node m n zero if = λ k m. absurd (List·Memᴰ·not-nil m)
+realDef-node m n zero only-if = one-node n (real n 0) 0 refl
+realDef-node m n (suc v) if = one-node n (real n (suc v)) 0 refl
+realDef-node m n (suc v) only-if = or-lacking n (decLe (suc v) m) (stored (real n (suc v)) 1) (one-node n (real n (suc v)) 1 refl)
+
+windowDef-node : (n f m i : ℕ) (d : Direction) → AtNode n (windowDef n f m i d)
+unfolding windowDef keyNode keyOf
+windowDef-node n f m zero if = λ k m. absurd (List·Memᴰ·not-nil m)
+windowDef-node n f m zero only-if = one-node n (window n f m) 0 refl
+windowDef-node n f m (suc i) if = one-node n (window n f m) (2 * i + 1) refl
+windowDef-node n f m (suc i) only-if = or-lacking n (decLe (suc i) m) (stored (window n f m) (2 * i + 2)) (one-node n (window n f m) (2 * i + 2) refl)
+
+longDef-node : (m n f k i : ℕ) (d : Direction) → AtNode n (longDef m n f k i d)
+unfolding longDef
+longDef-node m n zero zero i d = realDef-node m n i d
+longDef-node m n zero (suc k) i d = windowDef-node n zero m i d
+longDef-node m n (suc f) k i d = windowDef-node n (suc f) m i d
+
+sideDef-node : (t : List Node) (s : Side) (i : ℕ) (d : Direction) → AtNode (s .node) (sideDef t s i d)
+unfolding sideDef
+sideDef-node t s i d = by (decLe (sideLen t s) 1)
+  where
+    by : (c : Dec (sideLen t s ≤ 1))
+        → AtNode (s .node) (dite c (λ _. oneDef (sideLit t s 1) i d) (λ _. longDef (sideLen t s) (s .node) (s .offset) (s .limit) i d))
+    by (yes p) = oneDef-node (s .node) (sideLit t s 1) i d
+    by (no p) = longDef-node (sideLen t s) (s .node) (s .offset) (s .limit) i d
+
+looks-node : (c : Clause) (a b n m : ℕ) (k : Key) → AtNode a (c .left) → AtNode b (c .right) → AtNode n (c .this) → a < m → b < m → n < m
+    → List·Memᴰ k (looksOf c) → keyNode k < m
+unfolding looksOf
+looks-node c a b n m k l r th ha hb hn i =
+    ⊎-elim (λ h. ⊎-elim (λ g. rw (l k g) ha) (λ g. rw (r k g) hb) (List·Memᴰ·append-cases (keyOf (c .left)) h)) (λ h. rw (th k h) hn)
+    (List·Memᴰ·append-cases (keyOf (c .left) ++ keyOf (c .right)) i)
+
+lookups-in : (t : List Node) → Ok t → (x : Request) (k : Key) → In t x → List·Memᴰ k (lookups t x) → KeyIn t k
+unfolding lookups In KeyIn nodeOf clausesOf clausesAt Below ifClause onlyIfClause
+lookups-in t ok (request n v d) k i m =
+    go (at t n) d (sides-in t ok n i) (of-flatMap looksOf (clausesOf t (request n v d)) m .1) (of-flatMap looksOf (clausesOf t (request n v d)) m .2)
+  where
+    go : (a : Node) (d : Direction) → Below (length t) a → {c : Clause} → List·Memᴰ c (clausesAt t n a v d) → List·Memᴰ k (looksOf c)
+        → keyNode k < length t
+    go (leaf a) d b g h = absurd (List·Memᴰ·not-nil g)
+    go (join ls o l r) if b {c} g h =
+        let j = Memᴰ·of-map (ifClause t n (join ls o l r) l r v) (splits v (sideLen t l) (sideLen t r)) g in
+        looks-node (ifClause t n (join ls o l r) l r v (j .0)) (l .node) (r .node) n (length t) k (sideDef-node t l (j .0) only-if)
+        (sideDef-node t r (v - j .0) only-if) (realDef-node (len (join ls o l r)) n v if) (b .0) (b .1) i
+        (subst (λ (z : Clause). List·Memᴰ k (looksOf z)) (sym (j .2)) h)
+    go (join ls o l r) only-if b {c} g h =
+        let j = Memᴰ·of-map (onlyIfClause t n (join ls o l r) l r v) (splits (v - 1) (sideLen t l) (sideLen t r)) g in
+        looks-node (onlyIfClause t n (join ls o l r) l r v (j .0)) (l .node) (r .node) n (length t) k (sideDef-node t l (suc (j .0)) if)
+        (sideDef-node t r (suc (v - 1 - j .0)) if) (realDef-node (len (join ls o l r)) n v only-if) (b .0) (b .1) i
+        (subst (λ (z : Clause). List·Memᴰ k (looksOf z)) (sym (j .2)) h)
+
+-- ---- later nodes change no clause
+
+sideDef-more : (t u : List Node) (s : Side) (i : ℕ) (d : Direction) → s .node < length t → sideDef t s i d ≡ sideDef (t ++ u) s i d
+unfolding sideDef
+sideDef-more t u s i d h = rw (← sideLen-more t u s h, ← sideLit-more t u s 1 h)
+
+negPart-more : (t u : List Node) (s : Side) (i : ℕ) → s .node < length t → negPart t s i ≡ negPart (t ++ u) s i
+unfolding negPart
+negPart-more t u s zero h = refl
+negPart-more t u s (suc i) h = rw (sideLit-more t u s (suc i) h)
+
+posPart-more : (t u : List Node) (s : Side) (i : ℕ) → s .node < length t → posPart t s i ≡ posPart (t ++ u) s i
+unfolding posPart
+posPart-more t u s i h = rw (sideLit-more t u s i h, sideLen-more t u s h)
+
+ifClause-more : (t u : List Node) (n : ℕ) (x : Node) (l r : Side) (v a : ℕ) → l .node < length t → r .node < length t
+    → ifClause t n x l r v a ≡ ifClause (t ++ u) n x l r v a
+unfolding ifClause
+ifClause-more t u n x l r v a hl hr =
+    rw (← sideDef-more t u l a only-if hl, ← sideDef-more t u r (v - a) only-if hr, ← negPart-more t u l a hl, ← negPart-more t u r (v - a) hr)
+
+onlyIfClause-more : (t u : List Node) (n : ℕ) (x : Node) (l r : Side) (v a : ℕ) → l .node < length t → r .node < length t
+    → onlyIfClause t n x l r v a ≡ onlyIfClause (t ++ u) n x l r v a
+unfolding onlyIfClause
+onlyIfClause-more t u n x l r v a hl hr =
+    rw (
+      ← sideDef-more t u l (suc a) if hl,
+      ← sideDef-more t u r (suc (v - 1 - a)) if hr,
+      ← posPart-more t u l (suc a) hl,
+      ← posPart-more t u r
+          (suc (v - 1 - a)) hr,
+    )
+
+pub clauses-more : (t u : List Node) → Ok t → (x : Request) → In t x → clausesOf t x ≡ clausesOf (t ++ u) x
+unfolding clausesOf In nodeOf clausesAt Below
+clauses-more t u ok (request n v d) i = rw (← at-more t u n i) (go (at t n) d (sides-in t ok n i))
+  where
+    go : (a : Node) (d : Direction) → Below (length t) a → clausesAt t n a v d ≡ clausesAt (t ++ u) n a v d
+    go (leaf a) d b = refl
+    go (join ls o l r) if b =
+        rw (← sideLen-more t u l (b .0), ← sideLen-more t u r (b .1))
+        (map-agree (splits v (sideLen t l) (sideLen t r)) (λ a h. ifClause-more t u n (join ls o l r) l r v a (b .0) (b .1)))
+    go (join ls o l r) only-if b =
+        rw (← sideLen-more t u l (b .0), ← sideLen-more t u r (b .1))
+        (map-agree (splits (v - 1) (sideLen t l) (sideLen t r)) (λ a h. onlyIfClause-more t u n (join ls o l r) l r v a (b .0) (b .1)))
+
+pulls-in : (t : List Node) (k j : Key) → KeyIn t k → List·Memᴰ j (pulls k) → (keyNode j < length t) × (keyRank j < keyRank k)
+unfolding pulls KeyIn keyNode keyRank
+pulls-in t (real n v) j i m = absurd (List·Memᴰ·not-nil m)
+pulls-in t (window-zero n f k) j i m = absurd (List·Memᴰ·not-nil m)
+pulls-in t (window n f k) j i m = ⊎-elim here there (List·Memᴰ·cases-cons m)
+  where
+    here : j ≡ window-zero n f k → (keyNode j < length t) × (keyRank j < 1)
+    here e = rw e (i, omega arith)
+
+    there : List·Memᴰ j (map (λ (i : ℕ). real n (f + i)) (range 1 k)) → (keyNode j < length t) × (keyRank j < 1)
+    there h = let q = Memᴰ·of-map (λ (i : ℕ). real n (f + i)) (range 1 k) h in rw (← q .2) (i, omega arith)
+
+needs-in : (t : List Node) → Ok t → (x y : Request) → In t x → List·Memᴰ y (needs t x) → In t y
+unfolding needs In
+needs-in t ok (request n v d) y i m = needs-under t (at t n) v d (length t) y (sides-in t ok n (unfold nodeOf in i)) m
+
+needs-lower : (t : List Node) → Ok t → (x y : Request) → In t x → List·Memᴰ y (needs t x) → nodeOf y < nodeOf x
+unfolding needs In nodeOf Ok
+needs-lower t ok (request n v d) y i m = needs-under t (at t n) v d n y (ok n i) m
+
+-- The theory of crate `memo` applies to the counters.
+pub counters-grow : Grows counters
+unfolding In KeyIn literalsOf lookups
+counters-grow = record {
+  ok-less = ok-less;
+  in-more = λ t u x i. omega (arith, length-append t u);
+  needs-in = needs-in;
+  lookups-in = lookups-in;
+  pulls-in = λ t ok k j i m. pulls-in t k j i m .0;
+  needs-more = needs-more;
+  lookups-more = λ t u ok x i. ap (flatMap looksOf) (clauses-more t u ok x i);
+  group-more = λ t u ok x i. ap (map {B = List ℕ} (λ (c : Clause). c .literals)) (clauses-more t u ok x i);
+  pulls-more = λ t u ok k i. refl;
+  sums-more = λ t u ok k i. refl;
+}
+
+pub needs-fall : (t : List Node) → Ok t → Falls (needs t) (In t) nodeOf
+needs-fall t ok = record { good = needs-in t ok; lower = needs-lower t ok }
+
+pub pulls-fall : (t : List Node) → Falls pulls (KeyIn t) keyRank
+unfolding KeyIn
+pulls-fall t = record { good = λ k j i m. pulls-in t k j i m .0; lower = λ k j i m. pulls-in t k j i m .1 }

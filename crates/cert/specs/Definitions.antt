@@ -1,0 +1,196 @@
+-- Definitions: which there are and how they are looked up, the sums and derivations that are written for each, and what these come to.
+use mathlib.Core.List.{List, [], _∷_, _++_, map, flatMap}
+use mathlib.Core.Logic.{dite}
+use mathlib.Core.Option.{some}
+use Prim.Native.Nat.{ℕ, zero, suc, _+_, _-_, _*_}
+use native.Mathlib.Decide.{decLt, decLe}
+use lib.ListN.{length}
+use Rattle.pb.specs.Sum.{neg, _·_, Sum, _≥_, units, keep, normal}
+use Rattle.pb.specs.Rules.{Token, step, literal, add, divide, saturate}
+use Rattle.record.specs.Record.{Record, sum, derivation, clause, deletion}
+use Rattle.record.specs.Steps.{Defined, written, derived}
+use Rattle.totdb.specs.Nodes.{Side, Node, at, leaves, len, output, range, sideLen, sideLit}
+
+-- The direction of a definition or a request (rustsat's Semantics), for an output of value v. `if`: where v of the leaf list are true, the output is
+-- true. `only-if`: the output is true only where so many are.
+pub data Direction : Type 0 where
+  if only-if : Direction
+
+-- ---- what is looked up
+
+-- What is written at once, at its first lookup: a real definition (over the leaf list) of a node's value, from 0 to one above the length;
+-- the sum of value 0 of a window, and the rest of a window. A window is a node, an offset and a number of outputs.
+pub data Key : Type 0 where
+  real : ℕ → ℕ → Key
+  window-zero window : ℕ → ℕ → ℕ → Key
+
+-- A definition in one direction (rustsat's SemDefinition): nothing to add, a literal axiom, one of the steps of a key, or none of that direction
+-- (question 13).
+-- For a real definition the steps count from 0. For a window 0 is the sum of value 0, and the if and the only-if of its i-th value are 2 i - 1 and 2
+-- i.
+pub data Definition : Type 0 where
+  nothing : Definition
+  axiom-of : ℕ → Definition
+  stored : Key → ℕ → Definition
+  lacking : Definition
+
+-- A leaf, or a window of length 1: its one literal, at 0, at its own value and above.
+unfoldable pub oneDef : ℕ → ℕ → Direction → Definition
+unfolding neg
+oneDef o zero if = lacking
+oneDef o zero only-if = axiom-of o
+oneDef o (suc zero) d = nothing
+oneDef o (suc (suc i)) if = axiom-of (neg o)
+oneDef o (suc (suc i)) only-if = lacking
+
+-- A real definition of value v, where the length is m: only-if alone at 0, if alone above the length, else if and then only-if.
+unfoldable pub realDef : ℕ → ℕ → ℕ → Direction → Definition
+unfolding decLe
+realDef m n zero if = lacking
+realDef m n zero only-if = stored (real n 0) 0
+realDef m n (suc v) if = stored (real n (suc v)) 0
+realDef m n (suc v) only-if = dite (decLe (suc v) m) (λ _. stored (real n (suc v)) 1) (λ _. lacking)
+
+-- The i-th value of a window of m outputs. A value at or below the offset is its value 0.
+unfoldable pub windowDef : ℕ → ℕ → ℕ → ℕ → Direction → Definition
+unfolding decLe
+windowDef n f m zero if = lacking
+windowDef n f m zero only-if = stored (window n f m) 0
+windowDef n f m (suc i) if = stored (window n f m) (2 * i + 1)
+windowDef n f m (suc i) only-if = dite (decLe (suc i) m) (λ _. stored (window n f m) (2 * i + 2)) (λ _. lacking)
+
+-- Plain, or a window: node n, offset and limit, m outputs.
+unfoldable pub longDef : ℕ → ℕ → ℕ → ℕ → ℕ → Direction → Definition
+unfolding realDef windowDef
+longDef m n zero zero i d = realDef m n i d
+longDef m n zero (suc k) i d = windowDef n zero m i d
+longDef m n (suc f) k i d = windowDef n (suc f) m i d
+
+-- The definition of a side's value i, from 0 to one above its length.
+unfoldable pub sideDef : List Node → Side → ℕ → Direction → Definition
+unfolding sideLen sideLit oneDef longDef decLe
+sideDef t s i d = dite (decLe (sideLen t s) 1) (λ _. oneDef (sideLit t s 1) i d) (λ _. longDef (sideLen t s) (s .node) (s .offset) (s .limit) i d)
+
+-- A window is written after its sum of value 0 and the real definitions of its outputs, ascending, those that are missing.
+unfoldable pub pulls : Key → List Key
+unfolding range
+pulls (real n v) = []
+pulls (window-zero n f m) = []
+pulls (window n f m) = window-zero n f m ∷ map (λ (i : ℕ). real n (f + i)) (range 1 m)
+
+-- ---- real definitions: node x of length n, value v, leaf literals l
+
+-- (all ¬l, then output with coefficient n - v + 1) ≥ n - v + 1, witness output true
+unfoldable pub realIf : Node → ℕ → Record
+unfolding units neg leaves len output
+realIf x v = sum (output x v + 1) (units (map neg (leaves x)) ++ ((len x + 1 - v) · output x v ∷ [])) (len x + 1 - v)
+
+-- (all l, then ¬output with coefficient v) ≥ v, witness output false
+unfoldable pub realOnlyIf : Node → ℕ → Record
+unfolding units neg leaves output
+realOnlyIf x v = sum (neg (output x v) + 1) (units (leaves x) ++ (v · neg (output x v) ∷ [])) v
+
+-- No witness, bound 0.
+unfoldable pub atLeastZero : List ℕ → Record
+unfolding units
+atLeastZero ls = sum 0 (units ls) 0
+
+unfoldable pub realRecords : Node → ℕ → List Record
+unfolding realIf realOnlyIf atLeastZero decLt
+realRecords x zero = atLeastZero (leaves x) ∷ []
+realRecords x (suc v) = dite (decLt (len x) (suc v)) (λ _. atLeastZero (map neg (leaves x)) ∷ []) (λ _. realIf x (suc v) ∷ realOnlyIf x (suc v) ∷ [])
+
+-- ---- windows: node x of number n, offset f, m outputs. `at-step` gives the step of each place of a key.
+
+-- One text added to another: left operand, right operand, operation. Adding the empty text writes nothing.
+unfoldable pub addText : List Token → List Token → List Token
+addText ks [] = ks
+addText ks (j ∷ js) = ks ++ ((j ∷ js) ++ (add ∷ []))
+
+-- The texts added up.
+unfoldable pub total : List Token → List (List Token) → List Token
+unfolding addText
+total ks [] = ks
+total [] (js ∷ jss) = total js jss
+total (k ∷ ks) (js ∷ jss) = total (addText (k ∷ ks) js) jss
+
+-- if of v, at s: s < v adds ¬o(s); s = v nothing; s > v (real if of v plus real only-if of s), divided by s - v + 1, saturated
+unfoldable pub ifPart : (Key → ℕ → ℕ) → ℕ → Node → ℕ → ℕ → List Token
+unfolding neg output decLt
+ifPart at-step n x v s =
+    dite (decLt s v) (λ _. literal (neg (output x s)) ∷ [])
+    (λ _. dite (decLt v s) (λ _. step (at-step (real n v) 0) ∷ step (at-step (real n s) 1) ∷ add ∷ divide (s - v + 1) ∷ saturate ∷ []) (λ _. []))
+
+-- only-if of v, at s: s < v adds (real only-if of v plus real if of s), divided by v - s + 1, saturated; s > v adds o(s)
+unfoldable pub onlyIfPart : (Key → ℕ → ℕ) → ℕ → Node → ℕ → ℕ → List Token
+unfolding output decLt
+onlyIfPart at-step n x v s =
+    dite (decLt s v) (λ _. step (at-step (real n v) 1) ∷ step (at-step (real n s) 0) ∷ add ∷ divide (v - s + 1) ∷ saturate ∷ [])
+    (λ _. dite (decLt v s) (λ _. literal (output x s) ∷ []) (λ _. []))
+
+-- s over the window, ascending
+unfoldable pub windowIf : (Key → ℕ → ℕ) → ℕ → Node → ℕ → ℕ → ℕ → Record
+unfolding total ifPart range
+windowIf at-step n x f m v = derivation (total [] (map (ifPart at-step n x v) (range (f + 1) m)))
+
+unfoldable pub windowOnlyIf : (Key → ℕ → ℕ) → ℕ → Node → ℕ → ℕ → ℕ → Record
+unfolding total onlyIfPart range
+windowOnlyIf at-step n x f m v = derivation (total [] (map (onlyIfPart at-step n x v) (range (f + 1) m)))
+
+unfoldable pub windowOutputs : Node → ℕ → ℕ → List ℕ
+unfolding output range
+windowOutputs x f m = map (output x) (range (f + 1) m)
+
+-- ---- the records of a key
+
+unfoldable pub keyRecords : (Key → ℕ → ℕ) → List Node → Key → List Record
+unfolding at realRecords atLeastZero windowOutputs windowIf windowOnlyIf flatMap neg
+keyRecords at-step t (real n v) = realRecords (at t n) v
+keyRecords at-step t (window-zero n f m) = atLeastZero (windowOutputs (at t n) f m) ∷ []
+keyRecords at-step t (window n f m) =
+    flatMap {B = Record} (λ (v : ℕ). windowIf at-step n (at t n) f m v ∷ windowOnlyIf at-step n (at t n) f m v ∷ []) (range (f + 1) m)
+    ++ (atLeastZero (map neg (windowOutputs (at t n) f m)) ∷ [])
+
+-- ---- the sums that a key defines: what its records come to
+
+-- The sum of ¬o(s), s ≠ v, plus k · o(v) ≥ k, k the count of s > v: the outputs before that of v, that one, and those after it.
+unfoldable pub windowIfOf : List ℕ → ℕ → List ℕ → Sum
+unfolding units keep neg
+windowIfOf xs w ys = (units (map neg (xs ++ ys)) ++ keep (length ys) w []) ≥ length ys
+
+-- The sum of o(s), s ≠ v, plus j · ¬o(v) ≥ j, j the count of s < v.
+unfoldable pub windowOnlyIfOf : List ℕ → ℕ → List ℕ → Sum
+unfolding units keep neg
+windowOnlyIfOf xs w ys = (units (xs ++ ys) ++ keep (length xs) (neg w) []) ≥ length xs
+
+-- The outputs of a window before value v, and after it.
+unfoldable pub outputsBefore : Node → ℕ → ℕ → List ℕ
+unfolding output range
+outputsBefore x f v = map (output x) (range (f + 1) (v - (f + 1)))
+
+unfoldable pub outputsAfter : Node → ℕ → ℕ → ℕ → List ℕ
+unfolding output range
+outputsAfter x f m v = map (output x) (range (v + 1) (f + m - v))
+
+unfoldable pub windowIfSum : Node → ℕ → ℕ → ℕ → Sum
+unfolding normal windowIfOf outputsBefore outputsAfter output
+windowIfSum x f m v = normal (windowIfOf (outputsBefore x f v) (output x v) (outputsAfter x f m v))
+
+unfoldable pub windowOnlyIfSum : Node → ℕ → ℕ → ℕ → Sum
+unfolding normal windowOnlyIfOf outputsBefore outputsAfter output
+windowOnlyIfSum x f m v = normal (windowOnlyIfOf (outputsBefore x f v) (output x v) (outputsAfter x f m v))
+
+unfoldable pub asWritten : Record → List Defined
+asWritten (sum w ts b) = written w ts b ∷ []
+asWritten (derivation ks) = []
+asWritten (clause s ls) = []
+asWritten (deletion ss) = []
+
+unfoldable pub definedBy : List Node → Key → List Defined
+unfolding at realRecords asWritten windowOutputs windowIfSum windowOnlyIfSum flatMap units neg
+definedBy t (real n v) = flatMap asWritten (realRecords (at t n) v)
+definedBy t (window-zero n f m) = written 0 (units (windowOutputs (at t n) f m)) 0 ∷ []
+definedBy t (window n f m) =
+    flatMap {B = Defined} (λ (v : ℕ). derived (some (windowIfSum (at t n) f m v)) ∷ derived (some (windowOnlyIfSum (at t n) f m v)) ∷ [])
+    (range (f + 1) m)
+    ++ (written 0 (units (map neg (windowOutputs (at t n) f m))) 0 ∷ [])

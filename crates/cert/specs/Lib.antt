@@ -1,0 +1,5 @@
+pub mod Definitions
+pub mod Requests
+pub mod Equal
+pub mod State
+pub mod Totalizer

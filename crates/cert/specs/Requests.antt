@@ -1,0 +1,151 @@
+-- A request: what it needs below, the clauses it writes, and what is looked up and derived for each, as functions of a table of nodes.
+use mathlib.Core.Bool.{Bool, true, false, _||_}
+use mathlib.Core.List.{List, [], _∷_, _++_, map, flatMap}
+use mathlib.Core.Logic.{dite}
+use Prim.Native.Nat.{ℕ, zero, suc, _+_, _-_, min}
+use native.Mathlib.Decide.{decLe}
+use Rattle.pb.specs.Sum.{neg}
+use Rattle.pb.specs.Rules.{Token, step, literal, saturate}
+use Rattle.totdb.specs.Nodes.{Side, Node, leaf, join, at, len, output, range, sideLen, sideLit}
+use Rattle.cert.specs.Definitions.{Direction, if, only-if, Key, Definition, nothing, axiom-of, stored, lacking, realDef, sideDef, addText}
+
+-- A node, a value of it and a direction. It is held once its clauses are written.
+pub data Request : Type 0 where
+  request : ℕ → ℕ → Direction → Request
+
+unfoldable pub nodeOf : Request → ℕ
+nodeOf (request n v d) = n
+
+-- ---- needs
+
+-- The a, ascending, with a + b = v for some b, a at most p and b at most q.
+unfoldable pub splits : ℕ → ℕ → ℕ → List ℕ
+unfolding range
+splits v p q = range (v - q) (suc (min v p) - (v - q))
+
+unfoldable pub positive : List ℕ → List ℕ
+positive [] = []
+positive (zero ∷ l) = positive l
+positive (suc a ∷ l) = suc a ∷ positive l
+
+unfoldable pub within : ℕ → List ℕ → List ℕ
+unfolding decLe
+within p [] = []
+within p (a ∷ l) = dite (decLe a p) (λ _. a ∷ within p l) (λ _. within p l)
+
+-- The literals that the clauses of value v name on a side of length p, where the other has length q, ascending.
+unfoldable pub named : Direction → ℕ → ℕ → ℕ → List ℕ
+unfolding splits positive within
+named if v p q = positive (splits v p q)
+named only-if v p q = within p (map suc (splits (v - 1) p q))
+
+-- They are requested of the side's node, in the same direction.
+unfoldable pub below : Direction → Side → List ℕ → List Request
+below d s l = map {B = Request} (λ (i : ℕ). request (s .node) (s .offset + i) d) l
+
+unfoldable pub needsAt : List Node → Node → ℕ → Direction → List Request
+unfolding below named sideLen
+needsAt t (leaf a) v d = []
+needsAt t (join ls o l r) v d = below d l (named d v (sideLen t l) (sideLen t r)) ++ below d r (named d v (sideLen t r) (sideLen t l))
+
+-- Left, then right. A leaf needs nothing.
+unfoldable pub needs : List Node → Request → List Request
+unfolding at needsAt
+needs t (request n v d) = needsAt t (at t n) v d
+
+-- ---- clauses
+
+-- A clause with the definitions that its step adds up: this one, plus left, plus right, saturated.
+pub record Clause : Type 0 where
+  pub left : Definition
+  pub right : Definition
+  pub this : Definition
+  pub literals : List ℕ
+
+-- A part with index 0 is absent.
+unfoldable pub negPart : List Node → Side → ℕ → List ℕ
+unfolding neg sideLit
+negPart t s zero = []
+negPart t s (suc i) = neg (sideLit t s (suc i)) ∷ []
+
+-- A part above its side's length is absent.
+unfoldable pub posPart : List Node → Side → ℕ → List ℕ
+unfolding sideLen sideLit decLe
+posPart t s i = dite (decLe i (sideLen t s)) (λ _. sideLit t s i ∷ []) (λ _. [])
+
+-- If, a + b = v: ¬L(a), ¬R(b), o(v), with the sides' only-if at a and b.
+unfoldable pub ifClause : List Node → ℕ → Node → Side → Side → ℕ → ℕ → Clause
+unfolding sideDef realDef len negPart output
+ifClause t n x l r v a = record {
+  left = sideDef t l a only-if;
+  right = sideDef t r (v - a) only-if;
+  this = realDef (len x) n v if;
+  literals = negPart t l a ++ negPart t r (v - a) ++ (output x v ∷ []);
+}
+
+-- Only-if, a + b = v - 1: L(a + 1), R(b + 1), ¬o(v), with the sides' if at a + 1 and b + 1.
+unfoldable pub onlyIfClause : List Node → ℕ → Node → Side → Side → ℕ → ℕ → Clause
+unfolding sideDef realDef len posPart output neg
+onlyIfClause t n x l r v a = record {
+  left = sideDef t l (suc a) if;
+  right = sideDef t r (suc (v - 1 - a)) if;
+  this = realDef (len x) n v only-if;
+  literals = posPart t l (suc a) ++ posPart t r (suc (v - 1 - a)) ++ (neg (output x v) ∷ []);
+}
+
+unfoldable pub clausesAt : List Node → ℕ → Node → ℕ → Direction → List Clause
+unfolding ifClause onlyIfClause splits sideLen
+clausesAt t n (leaf a) v d = []
+clausesAt t n (join ls o l r) v if = map {B = Clause} (ifClause t n (join ls o l r) l r v) (splits v (sideLen t l) (sideLen t r))
+clausesAt t n (join ls o l r) v only-if = map {B = Clause} (onlyIfClause t n (join ls o l r) l r v) (splits (v - 1) (sideLen t l) (sideLen t r))
+
+-- The clauses of a request, in order. A leaf has none.
+unfoldable pub clausesOf : List Node → Request → List Clause
+unfolding at clausesAt
+clausesOf t (request n v d) = clausesAt t n (at t n) v d
+
+-- ---- lookups and derivation
+
+unfoldable pub keyOf : Definition → List Key
+keyOf nothing = []
+keyOf (axiom-of l) = []
+keyOf (stored k i) = k ∷ []
+keyOf lacking = []
+
+-- Left, right, this.
+unfoldable pub looksOf : Clause → List Key
+unfolding keyOf
+looksOf c = keyOf (c .left) ++ keyOf (c .right) ++ keyOf (c .this)
+
+-- What a request's clauses are, and what they look up.
+unfoldable pub literalsOf : List Node → Request → List (List ℕ)
+unfolding clausesOf
+literalsOf t x = map {B = List ℕ} (λ (c : Clause). c .literals) (clausesOf t x)
+
+unfoldable pub lookups : List Node → Request → List Key
+unfolding clausesOf looksOf flatMap
+lookups t x = flatMap looksOf (clausesOf t x)
+
+-- Question 13.
+unfoldable pub lacks : Definition → Bool
+lacks nothing = false
+lacks (axiom-of l) = false
+lacks (stored k i) = false
+lacks lacking = true
+
+unfoldable pub lacksOne : Clause → Bool
+unfolding lacks
+lacksOne c = lacks (c .left) || lacks (c .right) || lacks (c .this)
+
+-- `at-step` gives the step of each place of a key.
+unfoldable pub defTokens : (Key → ℕ → ℕ) → Definition → List Token
+defTokens at-step nothing = []
+defTokens at-step (axiom-of l) = literal l ∷ []
+defTokens at-step (stored k i) = step (at-step k i) ∷ []
+defTokens at-step lacking = []
+
+-- This definition, plus left, plus right, saturated.
+unfoldable pub clauseTokens : (Key → ℕ → ℕ) → Clause → List Token
+unfolding defTokens addText
+clauseTokens at-step c =
+    addText (addText (defTokens at-step (c .this)) (defTokens at-step (c .left))) (defTokens at-step (c .right)) ++ (saturate ∷ [])

@@ -1,0 +1,46 @@
+-- Demand 2: an accepted log's clauses are the totalizer's, each derivation comes to its clause or window definition, and each sum is a definition's.
+use mathlib.Core.Path.{_≡_, _∙_}
+use mathlib.Core.List.{List}
+use Prim.Native.Nat.{ℕ}
+use Rattle.totlog.proofs.Accepted.{accepted-script}
+use Rattle.demands.proofs.Holds.{holds}
+use Rattle.memo.proofs.Lists.{flatMap-agree}
+use Rattle.totdb.specs.Nodes.{Node}
+use Rattle.cert.specs.Requests.{Request, request, literalsOf}
+use Rattle.cert.specs.State.{Head, State, start, keys}
+use Rattle.cert.specs.Totalizer.{totalizer}
+use Rattle.cert.proofs.Apart.{Right}
+use Rattle.cert.proofs.Schema.{clauses-schema}
+use Rattle.totlog.specs.Script.{Command}
+use Rattle.totlog.specs.Called.{table}
+use Rattle.totlog.proofs.ClauseSteps.{clause-steps}
+use Rattle.totlog.proofs.Matching.{held-from, held-has, held-once, held-right, held-clauses, keys-from, keys-has, keys-once}
+use Rattle.totlog.proofs.Runs.{AllPassed}
+use Rattle.demands.specs.Demands.{Proved, Demand2}
+use Rattle.demands.proofs.Demand3.{sums-are}
+
+as-schema : (t : List Node) (x : Request) → Right t x → literalsOf t x ≡ totalizer t x
+unfolding Right
+as-schema t (request n v d) r = clauses-schema t n v d (r .1) (r .2)
+
+module _ (h : Head) (capacity : ℕ) (cs : List Command) (u : State) (a : AllPassed h capacity cs (start h) u) where
+  proved : Proved h cs (u .log)
+  proved = record {
+    served = u .held;
+    served-once = held-once h capacity cs u a;
+    served-are = λ x. (held-from h capacity cs u a x, held-has h capacity cs u a x);
+    clauses-are =
+        held-clauses h capacity cs u a
+        ∙ flatMap-agree (u .held) (λ x m. as-schema (table h cs) x (held-right h capacity cs u a x m));
+    clause-steps = clause-steps h capacity cs u a;
+    stored = keys u;
+    stored-once = keys-once h capacity cs u a;
+    stored-are = λ k. (keys-from h capacity cs u a k, keys-has h capacity cs u a k);
+    definitions = sums-are h capacity cs u a;
+  }
+
+pub demand-2 : Demand2
+unfolding Demand2
+demand-2 bs capacity h cs r e =
+    let a = accepted-script bs capacity h cs r e in
+    (a .state .log, holds bs capacity h cs a, proved h capacity (cs .list) (a .state) (a .all))

@@ -1,0 +1,7 @@
+-- The proofs of the three demands, and the worked cases.
+pub mod Holds
+pub mod Demand1
+pub mod Demand2
+pub mod Demand3
+pub mod Cases
+pub mod Worked

@@ -1,0 +1,91 @@
+-- The whole case of document 01 and its cases marked (P), as one list: what the definitions give, and what the document says.
+use mathlib.Core.List.{List, [], _∷_, _++_}
+use mathlib.Core.Option.{Option, none, some}
+use Prim.Native.Nat.{ℕ}
+use lib.ListN.{replicate}
+use Rattle.number.specs.Number.{Front, number, bad, above, readIn, read}
+use Rattle.pb.specs.Sum.{Sum, _·_, _≥_}
+use Rattle.record.specs.Record.{decodeLog}
+use Rattle.record.specs.Steps.{stepOf}
+use Rattle.totlog.specs.Player.{played}
+
+-- What is worked out: a script with its capacity, a number read, or what a step of a script's log comes to.
+pub data Value : Type 0 where
+  answer : ℕ → ℕ → ℕ → ℕ → ℕ → ℕ → List ℕ → Value
+  reading : Front → Value
+  comes-to : Option Sum → Value
+
+pub record Case : Type 0 where
+  pub got : Value
+  pub want : Value
+
+unfoldable plays : List ℕ → ℕ → Value → Case
+unfolding played
+plays s c w = let o = played s c in record { got = answer (o .number) (o .place) (o .used) (o .steps) (o .clauses) (o .nodes) (o .log); want = w }
+
+unfoldable reads : List ℕ → Front → Case
+unfolding readIn above
+reads bs r = record { got = reading (read bs); want = reading r }
+
+-- the step of a log that holds exactly the script's records
+unfoldable steps-to : List ℕ → ℕ → ℕ → Option Sum → Case
+unfolding played decodeLog stepOf
+steps-to s c n w = record { got = comes-to (elim (decodeLog (played s c .log)) [ none ↦ none | some rs ↦ stepOf 1 rs n ]); want = comes-to w }
+
+-- two leaves and their join; with the request of value v in direction d
+unfoldable pair : ℕ → ℕ → List ℕ
+pair v d = 2 ∷ 1 ∷ 1 ∷ 0 ∷ 1 ∷ 2 ∷ 2 ∷ 0 ∷ 0 ∷ 0 ∷ 1 ∷ 0 ∷ 0 ∷ 3 ∷ 2 ∷ v ∷ d ∷ []
+
+unfoldable pair-log : List ℕ
+pair-log =
+    0x01 ∷ 0x05 ∷ 0x03 ∷ 0x01 ∷ 0x01 ∷ 0x01 ∷ 0x03 ∷ 0x02 ∷ 0x04 ∷ 0x02
+    ∷ 0x01 ∷ 0x06 ∷ 0x03 ∷ 0x01 ∷ 0x00 ∷ 0x01 ∷ 0x02 ∷ 0x01 ∷ 0x05 ∷ 0x01
+    ∷ 0x02 ∷ 0x04 ∷ 0x00 ∷ 0x01 ∷ 0x01 ∷ 0x00 ∷ 0x02 ∷ 0x04
+    ∷ 0x03 ∷ 0x03 ∷ 0x02 ∷ 0x03 ∷ 0x04
+    ∷ 0x02 ∷ 0x04 ∷ 0x00 ∷ 0x01 ∷ 0x01 ∷ 0x02 ∷ 0x02 ∷ 0x04
+    ∷ 0x03 ∷ 0x04 ∷ 0x02 ∷ 0x01 ∷ 0x04 ∷ []
+
+-- leaves 0 2 4 6, node 4 joins the first two, node 5 that and the third (outputs 6 7 8 of variables 6 to 8), node 6 joins node 5 from offset f on and
+-- the fourth
+unfoldable tree : ℕ → List ℕ
+tree f = 4 ∷ 1 ∷ 1 ∷ 0 ∷ 1 ∷ 2 ∷ 1 ∷ 4 ∷ 1 ∷ 6 ∷ 2 ∷ 0 ∷ 0 ∷ 0 ∷ 1 ∷ 0 ∷ 0 ∷ 2 ∷ 4 ∷ 0 ∷ 0 ∷ 2 ∷ 0 ∷ 0 ∷ 2 ∷ 5 ∷ f ∷ 0 ∷ 3 ∷ 0 ∷ 0 ∷ []
+
+-- the same with offset 1, and the request of value 1, if, of node 6
+unfoldable window : List ℕ
+window = 4 ∷ 1 ∷ 1 ∷ 0 ∷ 1 ∷ 2 ∷ 1 ∷ 4 ∷ 1 ∷ 6 ∷ 2 ∷ 0 ∷ 0 ∷ 0 ∷ 1 ∷ 0 ∷ 0 ∷ 2 ∷ 4 ∷ 0 ∷ 0 ∷ 2 ∷ 0 ∷ 0 ∷ 2 ∷ 5 ∷ 1 ∷ 0 ∷ 3 ∷ 0 ∷ 0 ∷ 3 ∷ 6 ∷ 1 ∷ 1 ∷
+    []
+
+unfoldable pub cases : List Case
+unfolding plays reads steps-to pair pair-log tree window
+cases =
+    -- the whole case; its log is one byte too short
+    plays (pair 1 1) 46 (answer 0 4 46 4 2 3 pair-log)
+    ∷ plays (pair 1 1) 45 (answer 14 4 0 0 0 3 (replicate 45 0))
+    -- the empty script; a head alone
+    ∷ plays [] 2 (answer 2 0 0 0 0 0 (0 ∷ 0 ∷ []))
+    ∷ plays (2 ∷ 1 ∷ []) 2 (answer 0 0 0 0 0 0 (0 ∷ 0 ∷ []))
+    -- numbers
+    ∷ reads (0x7f ∷ []) (number 127 [])
+    ∷ reads (0x80 ∷ 0x01 ∷ []) (number 128 [])
+    ∷ reads (0x80 ∷ 0x00 ∷ []) bad
+    ∷ plays (0x80 ∷ 0x00 ∷ 1 ∷ []) 0 (answer 2 0 0 0 0 0 [])
+    ∷ reads (0xff ∷ 0xff ∷ 0x7f ∷ []) (number 2097151 [])
+    ∷ reads (0xff ∷ 0xff ∷ 0xff ∷ 0x01 ∷ []) bad
+    -- value 0 and length + 1; the length passes
+    ∷ plays (pair 0 1) 0 (answer 11 4 0 0 0 3 [])
+    ∷ plays (pair 3 1) 0 (answer 11 4 0 0 0 3 [])
+    ∷ plays (pair 2 1) 31
+    (answer 0 4 31 3 1 3
+    (0x01 ∷ 0x07 ∷ 0x03 ∷ 0x01 ∷ 0x01 ∷ 0x01 ∷ 0x03 ∷ 0x01 ∷ 0x06 ∷ 0x01 ∷ 0x01 ∷ 0x08 ∷ 0x03 ∷ 0x01 ∷ 0x00 ∷ 0x01 ∷ 0x02 ∷ 0x02 ∷ 0x07 ∷ 0x02 ∷
+    0x02 ∷ 0x02 ∷ 0x00 ∷ 0x01 ∷ 0x04 ∷ 0x03 ∷ 0x03 ∷ 0x03 ∷ 0x01 ∷ 0x03 ∷ 0x06 ∷ []))
+    -- offset length - 1 passes; the length does not
+    ∷ plays (tree 2) 0 (answer 0 7 0 0 0 7 [])
+    ∷ plays (tree 3) 0 (answer 10 7 0 0 0 6 [])
+    -- three outputs (literals 12 14 16), offset 1: if and only-if of 2, if and only-if of 3
+    ∷ steps-to window 252 15 (some ((1 · 14 ∷ 1 · 17 ∷ []) ≥ 1))
+    ∷ steps-to window 252 16 (some ((1 · 16 ∷ []) ≥ 0))
+    ∷ steps-to window 252 17 (some ((1 · 15 ∷ []) ≥ 0))
+    ∷ steps-to window 252 18 (some ((1 · 14 ∷ 1 · 17 ∷ []) ≥ 1))
+    -- a request repeated adds nothing
+    ∷ plays (pair 1 1 ++ (3 ∷ 2 ∷ 1 ∷ 1 ∷ [])) 46 (answer 0 5 46 4 2 3 pair-log)
+    ∷ []

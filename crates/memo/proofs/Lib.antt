@@ -1,0 +1,6 @@
+-- The theory of memoised service.
+pub mod Lists
+pub mod Serve
+pub mod Machine
+pub mod Memo
+pub mod Grow

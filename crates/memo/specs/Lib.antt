@@ -1,0 +1,2 @@
+pub mod Visit
+pub mod Closure

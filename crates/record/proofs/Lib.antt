@@ -1,0 +1,2 @@
+-- A log read back.
+pub mod Decode

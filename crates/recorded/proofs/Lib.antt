@@ -1,0 +1,2 @@
+-- The definitions held to recorded answers.
+pub mod Answers

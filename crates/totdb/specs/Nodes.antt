@@ -1,0 +1,107 @@
+-- Nodes and sides, as functions of a table of nodes: length, outputs, leaf lists, and what the table has.
+use mathlib.Core.Bool.{Bool, false, _||_}
+use mathlib.Core.List.{List, [], _∷_, _++_, map}
+use Prim.Native.Nat.{ℕ, zero, suc, _+_, _-_, _*_}
+use lib.Dec.{eqb}
+use lib.ListN.{length, getD}
+
+-- A side (rustsat's NodeCon, a connection to a node): a node, an offset and a limit, 0 for none. Offset 0 with no limit is plain; any other is a
+-- window.
+pub record Side : Type 0 where
+  pub node : ℕ
+  pub offset : ℕ
+  pub limit : ℕ
+
+-- A leaf with its literal. A join with its leaf list, its first output variable and its two sides.
+pub data Node : Type 0 where
+  leaf : ℕ → Node
+  join : List ℕ → ℕ → Side → Side → Node
+
+-- The node of a number; the numbers count from 0.
+unfoldable pub at : List Node → ℕ → Node
+at t n = getD t n (leaf 0)
+
+-- The literals whose true ones a node counts.
+unfoldable pub leaves : Node → List ℕ
+leaves (leaf l) = l ∷ []
+leaves (join ls o l r) = ls
+
+unfoldable pub len : Node → ℕ
+unfolding leaves
+len a = length (leaves a)
+
+-- The output of value i, from 1 to the length: it stands for at least i true literals of the leaf list.
+unfoldable pub output : Node → ℕ → ℕ
+output (leaf l) i = l
+output (join ls o l r) i = 2 * (o + i - 1)
+
+-- n numbers from s up
+unfoldable pub range : ℕ → ℕ → List ℕ
+range s zero = []
+range s (suc n) = s ∷ range (suc s) n
+
+-- ---- sides
+
+-- the limit if set, else n
+unfoldable pub limited : ℕ → ℕ → ℕ
+limited zero n = n
+limited (suc k) n = suc k
+
+-- The node's length less the offset, or the limit if set.
+unfoldable pub sideLen : List Node → Side → ℕ
+unfolding at len limited
+sideLen t s = limited (s .limit) (len (at t (s .node)) - s .offset)
+
+-- The a-th literal is the node's output f + a.
+unfoldable pub sideLit : List Node → Side → ℕ → ℕ
+unfolding at output
+sideLit t s a = output (at t (s .node)) (s .offset + a)
+
+unfoldable pub sideOutputs : List Node → Side → List ℕ
+unfolding sideLit sideLen range
+sideOutputs t s = map (sideLit t s) (range 1 (sideLen t s))
+
+-- The first list for a plain side, the second for a window: offset and limit.
+unfoldable pub plainOr : ℕ → ℕ → List ℕ → List ℕ → List ℕ
+plainOr zero zero ls os = ls
+plainOr zero (suc k) ls os = os
+plainOr (suc f) k ls os = os
+
+-- A plain side gives its node's leaf list, a window its own outputs.
+unfoldable pub sideLeaves : List Node → Side → List ℕ
+unfolding at leaves sideOutputs plainOr
+sideLeaves t s = plainOr (s .offset) (s .limit) (leaves (at t (s .node))) (sideOutputs t s)
+
+-- The join of two sides, its outputs on the variables from o up.
+unfoldable pub joined : List Node → ℕ → Side → Side → Node
+unfolding sideLeaves
+joined t o l r = join (sideLeaves t l ++ sideLeaves t r) o l r
+
+-- ---- what a table has
+
+unfoldable pub any : {A : Type 0} → (A → Bool) → List A → Bool
+any f [] = false
+any f (x ∷ xs) = f x || any f xs
+
+unfoldable pub leafOf : ℕ → Node → Bool
+leafOf l (leaf m) = eqb l m
+leafOf l (join ls o a b) = false
+
+-- a literal that is a leaf of the table
+unfoldable pub known : List Node → ℕ → Bool
+unfolding any leafOf
+known t l = any (leafOf l) t
+
+unfoldable pub leafCount : List Node → ℕ
+leafCount [] = 0
+leafCount (leaf l ∷ t) = suc (leafCount t)
+leafCount (join ls o l r ∷ t) = leafCount t
+
+unfoldable pub isOver : ℕ → Node → Bool
+isOver n (leaf l) = false
+isOver n (join ls o l r) = eqb (l .node) n || eqb (r .node) n
+
+-- a node under a join
+unfoldable pub taken : List Node → ℕ → Bool
+unfolding any isOver
+taken t n = any (isOver n) t

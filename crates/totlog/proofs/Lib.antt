@@ -1,0 +1,16 @@
+-- Theorems about scripts and the player.
+pub mod Reading
+pub mod Coding
+pub mod Refusal
+pub mod Sound
+pub mod Runs
+pub mod Accepted
+pub mod Counts
+pub mod Tree
+pub mod Values
+pub mod Decoded
+pub mod Different
+pub mod Defines
+pub mod ClauseSteps
+pub mod Matching
+pub mod Lengths
