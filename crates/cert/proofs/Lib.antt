@@ -16,4 +16,4 @@ pub mod Sides
 pub mod SideTokens
 pub mod Schema
 pub mod SchemaCases
-pub mod Cases
+pub mod Answers

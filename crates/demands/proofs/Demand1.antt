@@ -3,7 +3,7 @@ use mathlib.Core.Path.{_≡_, refl, sym, _∙_, ap, subst}
 use mathlib.Core.List.{List, [], _∷_}
 use Prim.Native.Nat.{ℕ, zero, suc}
 use native.Mathlib.Omega.{arith}
-use Rattle.totlog.proofs.Accepted.{head-number, Way, too-long, no-head, bad-head, commands, way, accepted-reads}
+use Rattle.totlog.proofs.Scripts.{head-number, Way, too-long, no-head, bad-head, commands, way, accepted-reads}
 use Rattle.demands.proofs.Holds.{outcome-holds, holds}
 use Rattle.record.specs.Record.{Record, bytes, decodeLog}
 use Rattle.cert.specs.State.{State, start, Head}

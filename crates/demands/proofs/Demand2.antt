@@ -2,7 +2,7 @@
 use mathlib.Core.Path.{_≡_, _∙_}
 use mathlib.Core.List.{List}
 use Prim.Native.Nat.{ℕ}
-use Rattle.totlog.proofs.Accepted.{accepted-script}
+use Rattle.totlog.proofs.Scripts.{accepted-script}
 use Rattle.demands.proofs.Holds.{holds}
 use Rattle.memo.proofs.Lists.{flatMap-agree}
 use Rattle.totdb.specs.Nodes.{Node}

@@ -3,7 +3,7 @@ use mathlib.Core.Path.{_≡_, sym, _∙_, ap, subst}
 use mathlib.Core.List.{List, flatMap, Perm, Perm·refl, Perm·trans, Perm·symm}
 use Prim.Native.Nat.{ℕ, _+_}
 use lib.ListN.{length}
-use Rattle.totlog.proofs.Accepted.{accepted-script}
+use Rattle.totlog.proofs.Scripts.{accepted-script}
 use Rattle.demands.proofs.Holds.{holds, nodes-are}
 use Rattle.memo.proofs.Lists.{length-perm}
 use Rattle.record.specs.Record.{steps, clauses}

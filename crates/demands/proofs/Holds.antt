@@ -10,7 +10,7 @@ use Rattle.cert.specs.State.{Head, State}
 use Rattle.totlog.specs.Script.{Commands}
 use Rattle.totlog.specs.Player.{Outcome, outcome, played}
 use Rattle.totlog.specs.Called.{table}
-use Rattle.totlog.proofs.Accepted.{Accepted}
+use Rattle.totlog.proofs.Scripts.{Accepted}
 use Rattle.totlog.proofs.Decoded.{log-decodes}
 use Rattle.totlog.proofs.Matching.{nodes-table}
 use Rattle.demands.specs.Demands.{Holds}

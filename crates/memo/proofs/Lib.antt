@@ -1,4 +1,5 @@
 -- The theory of memoised service.
+pub mod Answers
 pub mod Lists
 pub mod Serve
 pub mod Machine

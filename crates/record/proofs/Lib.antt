@@ -1,2 +1,3 @@
 -- A log read back.
+pub mod Answers
 pub mod Decode

@@ -9,7 +9,7 @@ use borrow.Author.Tests.{lt-ltb, le-ltb, le-leb, lt-leb, eq-eqb, ne-eqb, ltb-tru
 use lib.Dec.{leb, ltb, eqb}
 use lib.ListN.{length, take, replicate, length-append}
 use lib.Seq.{take-append-seam}
-use Rattle.totlog.proofs.Accepted.{Accepted, accepted-reads}
+use Rattle.totlog.proofs.Scripts.{Accepted, accepted-reads}
 use Rattle.number.specs.Number.{encode}
 use Rattle.pb.specs.Sum.{variable, neg}
 use Rattle.memo.proofs.Lists.{flatMap-append}

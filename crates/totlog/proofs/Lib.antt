@@ -4,7 +4,7 @@ pub mod Coding
 pub mod Refusal
 pub mod Sound
 pub mod Runs
-pub mod Accepted
+pub mod Scripts
 pub mod Counts
 pub mod Tree
 pub mod Values
@@ -14,3 +14,4 @@ pub mod Defines
 pub mod ClauseSteps
 pub mod Matching
 pub mod Lengths
+pub mod Answers

@@ -1,0 +1,49 @@
+-- Two requests in both directions through a window, worked out: the numbers of their records are those that rustsat 0.7.5 writes.
+use mathlib.Core.Path.{_≡_, refl}
+use mathlib.Core.List.{List, [], _∷_, flatMap}
+use Prim.Native.Nat.{ℕ}
+use Rattle.record.specs.Record.{numbers}
+use Rattle.totdb.specs.Nodes.{Side, Node, leaf, join}
+use Rattle.cert.specs.State.{State, start, serve, requests}
+
+side : ℕ → ℕ → Side
+side n f = record { node = n; offset = f; limit = 0 }
+
+-- The leaves 0 2 4 6; node 4 joins the first two, node 5 that and the third, node 6 the outputs of node 5 from offset 1 on and the fourth.
+pub table : List Node
+unfolding side
+table =
+    leaf 0 ∷ leaf 2 ∷ leaf 4 ∷ leaf 6
+    ∷ join (0 ∷ 2 ∷ []) 4 (side 0 0) (side 1 0)
+    ∷ join (0 ∷ 2 ∷ 4 ∷ []) 6 (side 4 0) (side 2 0)
+    ∷ join (14 ∷ 16 ∷ 6 ∷ []) 9 (side 5 1) (side 3 0)
+    ∷ []
+
+-- Values 1 and 3 of node 6, each in both directions.
+pub after : State
+unfolding table
+after = serve table (requests 6 3 3) (serve table (requests 6 1 3) (start (record { variable = 12; step = 1 })))
+
+pub record-numbers : flatMap numbers (after .log) ≡
+    1 ∷ 9 ∷ 3 ∷ 1 ∷ 1 ∷ 1 ∷ 3 ∷ 2 ∷ 8 ∷ 2 ∷ 1 ∷ 10 ∷ 3 ∷ 1 ∷ 0 ∷ 1 ∷ 2 ∷ 1 ∷ 9 ∷ 1
+    ∷ 2 ∷ 4 ∷ 0 ∷ 1 ∷ 1 ∷ 0 ∷ 2 ∷ 4 ∷ 3 ∷ 3 ∷ 2 ∷ 3 ∷ 8 ∷ 2 ∷ 4 ∷ 0 ∷ 1 ∷ 1 ∷ 2 ∷ 2 ∷ 4 ∷ 3 ∷ 4 ∷ 2 ∷ 1 ∷ 8
+    ∷ 1 ∷ 11 ∷ 3 ∷ 1 ∷ 1 ∷ 1 ∷ 3 ∷ 1 ∷ 10 ∷ 1 ∷ 1 ∷ 12 ∷ 3 ∷ 1 ∷ 0 ∷ 1 ∷ 2 ∷ 2 ∷ 11 ∷ 2 ∷ 2 ∷ 2 ∷ 0 ∷ 5 ∷ 4
+    ∷ 3 ∷ 7 ∷ 3 ∷ 1 ∷ 3 ∷ 10 ∷ 1 ∷ 15 ∷ 4 ∷ 1 ∷ 1 ∷ 1 ∷ 3 ∷ 1 ∷ 5 ∷ 2 ∷ 14 ∷ 2
+    ∷ 1 ∷ 16 ∷ 4 ∷ 1 ∷ 0 ∷ 1 ∷ 2 ∷ 1 ∷ 4 ∷ 2 ∷ 15 ∷ 2 ∷ 2 ∷ 4 ∷ 0 ∷ 8 ∷ 0 ∷ 2 ∷ 2 ∷ 4 ∷ 3 ∷ 10 ∷ 3 ∷ 9 ∷ 5 ∷ 14
+    ∷ 2 ∷ 6 ∷ 0 ∷ 8 ∷ 0 ∷ 6 ∷ 2 ∷ 1 ∷ 4 ∷ 2 ∷ 4 ∷ 3 ∷ 11 ∷ 2 ∷ 11 ∷ 14 ∷ 2 ∷ 2 ∷ 0 ∷ 2 ∷ 4
+    ∷ 3 ∷ 12 ∷ 3 ∷ 0 ∷ 2 ∷ 9 ∷ 2 ∷ 4 ∷ 0 ∷ 6 ∷ 1 ∷ 3 ∷ 2 ∷ 4 ∷ 3 ∷ 13 ∷ 2 ∷ 0 ∷ 11 ∷ 2 ∷ 4 ∷ 0 ∷ 6 ∷ 1 ∷ 1 ∷ 2 ∷ 4
+    ∷ 3 ∷ 14 ∷ 2 ∷ 2 ∷ 11 ∷ 2 ∷ 6 ∷ 0 ∷ 9 ∷ 0 ∷ 1 ∷ 2 ∷ 1 ∷ 5 ∷ 2 ∷ 4 ∷ 3 ∷ 15 ∷ 2 ∷ 8 ∷ 15
+    ∷ 2 ∷ 4 ∷ 0 ∷ 9 ∷ 0 ∷ 5 ∷ 2 ∷ 4 ∷ 3 ∷ 16 ∷ 3 ∷ 10 ∷ 4 ∷ 15 ∷ 1 ∷ 0 ∷ 2 ∷ 1 ∷ 14 ∷ 1 ∷ 16 ∷ 0
+    ∷ 1 ∷ 17 ∷ 4 ∷ 1 ∷ 1 ∷ 1 ∷ 3 ∷ 1 ∷ 5 ∷ 1 ∷ 16 ∷ 1 ∷ 1 ∷ 18 ∷ 4 ∷ 1 ∷ 0 ∷ 1 ∷ 2 ∷ 1 ∷ 4 ∷ 3 ∷ 17 ∷ 3
+    ∷ 2 ∷ 5 ∷ 0 ∷ 8 ∷ 0 ∷ 19 ∷ 2 ∷ 3 ∷ 2 ∷ 4 ∷ 2 ∷ 1 ∷ 1 ∷ 16 ∷ 2 ∷ 1 ∷ 1 ∷ 15
+    ∷ 2 ∷ 5 ∷ 0 ∷ 19 ∷ 0 ∷ 8 ∷ 2 ∷ 3 ∷ 2 ∷ 4 ∷ 1 ∷ 0 ∷ 2 ∷ 1 ∷ 15 ∷ 1 ∷ 17 ∷ 0
+    ∷ 1 ∷ 19 ∷ 4 ∷ 1 ∷ 15 ∷ 1 ∷ 17 ∷ 1 ∷ 7 ∷ 3 ∷ 18 ∷ 3 ∷ 1 ∷ 20 ∷ 4 ∷ 1 ∷ 14 ∷ 1 ∷ 16 ∷ 1 ∷ 6 ∷ 1 ∷ 19 ∷ 1
+    ∷ 2 ∷ 4 ∷ 0 ∷ 25 ∷ 0 ∷ 17 ∷ 2 ∷ 4 ∷ 3 ∷ 27 ∷ 2 ∷ 7 ∷ 18 ∷ 2 ∷ 6 ∷ 0 ∷ 25 ∷ 0 ∷ 21 ∷ 2 ∷ 1 ∷ 6 ∷ 2 ∷ 4
+    ∷ 3 ∷ 28 ∷ 2 ∷ 15 ∷ 18 ∷ 2 ∷ 4 ∷ 0 ∷ 26 ∷ 0 ∷ 20 ∷ 2 ∷ 4 ∷ 3 ∷ 29 ∷ 3 ∷ 14 ∷ 6 ∷ 19
+    ∷ 2 ∷ 4 ∷ 0 ∷ 18 ∷ 0 ∷ 6 ∷ 2 ∷ 4 ∷ 3 ∷ 30 ∷ 3 ∷ 11 ∷ 5 ∷ 16 ∷ 2 ∷ 6 ∷ 0 ∷ 19 ∷ 0 ∷ 5 ∷ 2 ∷ 1 ∷ 5 ∷ 2 ∷ 4
+    ∷ 3 ∷ 31 ∷ 2 ∷ 10 ∷ 17 ∷ 1 ∷ 0 ∷ 2 ∷ 1 ∷ 1 ∷ 1 ∷ 3 ∷ 0 ∷ 2 ∷ 4 ∷ 0 ∷ 19 ∷ 0 ∷ 32 ∷ 2 ∷ 4 ∷ 3 ∷ 33 ∷ 2 ∷ 4 ∷ 17
+    ∷ 1 ∷ 23 ∷ 4 ∷ 1 ∷ 15 ∷ 1 ∷ 17 ∷ 1 ∷ 7 ∷ 1 ∷ 22 ∷ 1 ∷ 1 ∷ 24 ∷ 4 ∷ 1 ∷ 14 ∷ 1 ∷ 16 ∷ 1 ∷ 6 ∷ 3 ∷ 23 ∷ 3
+    ∷ 2 ∷ 4 ∷ 0 ∷ 34 ∷ 0 ∷ 23 ∷ 2 ∷ 4 ∷ 3 ∷ 36 ∷ 3 ∷ 17 ∷ 7 ∷ 22 ∷ 2 ∷ 6 ∷ 0 ∷ 35 ∷ 0 ∷ 22 ∷ 2 ∷ 1 ∷ 7 ∷ 2 ∷ 4
+    ∷ 3 ∷ 37 ∷ 2 ∷ 16 ∷ 23 ∷ 2 ∷ 4 ∷ 0 ∷ 35 ∷ 0 ∷ 24 ∷ 2 ∷ 4 ∷ 3 ∷ 38 ∷ 2 ∷ 6 ∷ 23 ∷ []
+unfolding after serve requests start numbers flatMap
+record-numbers = refl

@@ -1,0 +1,34 @@
+-- The records of document 01's whole case, and a deletion, as bytes and read back.
+use mathlib.Core.Path.{_≡_, refl}
+use mathlib.Core.List.{List, [], _∷_}
+use mathlib.Core.Option.{some}
+use Prim.Native.Nat.{ℕ}
+use Rattle.pb.specs.Sum.{_·_}
+use Rattle.pb.specs.Rules.{step, literal, add, divide, saturate}
+use Rattle.record.specs.Record.{Record, sum, derivation, clause, deletion, bytes, decodeLog}
+
+unfoldable pub records : List Record
+records =
+    sum 5 (1 · 1 ∷ 1 · 3 ∷ 2 · 4 ∷ []) 2
+    ∷ derivation (step 1 ∷ literal 0 ∷ add ∷ divide 300 ∷ saturate ∷ [])
+    ∷ clause 3 (3 ∷ 4 ∷ [])
+    ∷ deletion (1 ∷ 2 ∷ [])
+    ∷ deletion []
+    ∷ []
+
+unfoldable pub written : List ℕ
+written =
+    1 ∷ 5 ∷ 3 ∷ 1 ∷ 1 ∷ 1 ∷ 3 ∷ 2 ∷ 4 ∷ 2
+    ∷ 2 ∷ 5 ∷ 0 ∷ 1 ∷ 1 ∷ 0 ∷ 2 ∷ 3 ∷ 172 ∷ 2 ∷ 4
+    ∷ 3 ∷ 3 ∷ 2 ∷ 3 ∷ 4
+    ∷ 4 ∷ 2 ∷ 1 ∷ 2
+    ∷ 4 ∷ 0
+    ∷ []
+
+pub writes : bytes records ≡ written
+unfolding records written bytes
+writes = refl
+
+pub reads : decodeLog written ≡ some records
+unfolding records written decodeLog
+reads = refl
