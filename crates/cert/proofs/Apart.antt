@@ -1,10 +1,10 @@
 -- The clauses are each written once: no request has one twice, and no two requests share one. A clause's last literal says whose it is.
-use Prim.Native.Nat.{ℕ, zero, suc, _+_, _-_, _*_, _%_, min, _≤_, _<_}
 use mathlib.Core.Path.{_≡_, refl, sym, _∙_, ap, subst}
 use mathlib.Core.Logic.{⊎-elim, dite, _≢_}
 use mathlib.Core.List.{List, [], _∷_, _++_, map, List·Memᴰ, List·Memᴰ·head, List·Memᴰ·tail, List·Memᴰ·not-nil, List·Memᴰ·append-cases, List·Memᴰ·cases-cons, Memᴰ·of-map, List·Nodup, nodup-nil, nodup-cons, head-eq-of-cons-eq}
-use native.Mathlib.Omega.{arith}
+use Prim.Native.Nat.{ℕ, zero, suc, _+_, _-_, _*_, _%_, min, _≤_, _<_}
 use native.Mathlib.Decide.{decLe, decLt}
+use native.Mathlib.Omega.{arith}
 use lib.ListN.{length}
 use Rattle.pb.specs.Sum.{neg}
 use Rattle.memo.proofs.Lists.{not-mem, map-twice, nodup-map}

@@ -1,12 +1,12 @@
 -- A clause's derivation, in normal form after every token, comes to the clause: this definition, plus left, plus right, saturated.
-use Prim.Native.Nat.{ℕ, _+_, _-_, _≤_, _<_, zero, suc}
 use mathlib.Core.Path.{_≡_, _∙_, ap, refl, sym}
 use mathlib.Core.Logic.{_≢_, dite}
 use mathlib.Core.List.{List, [], _∷_, _++_, map, append-assoc}
 use mathlib.Core.Option.{Option, some}
+use Prim.Native.Nat.{ℕ, _+_, _-_, _≤_, _<_, zero, suc}
+use native.Mathlib.Decide.{decLe}
 use native.Mathlib.Omega.{arith}
 use lib.ListN.{length, length-append}
-use native.Mathlib.Decide.{decLe}
 use Rattle.pb.specs.Rules.{Token, addition, evaluate, step, saturate}
 use Rattle.pb.specs.Sum.{Sum, units, neg, variable, normal, clauseSum, keep, _·_, _≥_}
 use Rattle.pb.proofs.Normal.{Same, Off, Apart, Clean, Apart-clean, same-room, weight}

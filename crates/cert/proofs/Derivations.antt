@@ -1,8 +1,8 @@
 -- What a derivation comes to when it is in normal form after every token: its parts put together, where each has room in its bound for what cancels.
-use Prim.Native.Nat.{ℕ, zero, suc, _+_, _≤_, _<_}
 use mathlib.Core.Path.{_≡_, refl, _∙_, ap}
 use mathlib.Core.List.{List, [], _∷_, _++_, append-assoc, append-nil}
 use mathlib.Core.Option.{Option, some}
+use Prim.Native.Nat.{ℕ, zero, suc, _+_, _≤_, _<_}
 use native.Mathlib.Omega.{arith}
 use lib.ListN.{length}
 use Rattle.pb.specs.Rules.{Token, run, step, literal, literalAxiom, add, addition, divide, division, saturate, saturation, evaluate, single}

@@ -1,11 +1,11 @@
 -- The variables of a table are different: those of a leaf list, of two nodes under no join, and of outputs.
-use Prim.Native.Nat.{ℕ, zero, suc, _+_, _*_, _≤_, _<_}
 use mathlib.Core.Path.{_≡_, refl, sym, _∙_, ap, subst}
 use mathlib.Core.Bool.{Bool, true, false, _||_}
 use mathlib.Core.Logic.{_≢_, _⊎_, inl, inr, ⊎-elim}
 use mathlib.Core.List.{List, [], _∷_, _++_, map, List·Memᴰ, List·Memᴰ·head, List·Memᴰ·tail, List·Memᴰ·append-cases, Memᴰ·of-map}
-use native.Mathlib.Omega.{arith}
+use Prim.Native.Nat.{ℕ, zero, suc, _+_, _*_, _≤_, _<_}
 use native.Mathlib.Decide.{decLt}
+use native.Mathlib.Omega.{arith}
 use lib.ListN.{length, length-append}
 use Rattle.pb.specs.Sum.{variable, units}
 use Rattle.pb.proofs.Normal.{Off, Apart}

@@ -1,15 +1,15 @@
 -- The steps of every stored key come to the sums that document 01 gives for it: real definitions as written, and a window's derivations to its
 -- definitions.
-use Prim.Native.Nat.{ℕ, zero, suc, _+_, _-_, _≤_, _<_}
 use mathlib.Core.Path.{_≡_, refl, sym, _∙_, ap, subst}
 use mathlib.Core.Logic.{_≢_, dite, ⊎-elim}
 use mathlib.Core.List.{List, [], _∷_, _++_, map, flatMap, map-append, append-assoc, append-nil, List·Memᴰ, List·Memᴰ·head, List·Memᴰ·tail, List·Memᴰ·not-nil, List·Memᴰ·cases-cons, List·Memᴰ·append-cases, List·Memᴰ·eq-of-singleton, Memᴰ·map}
 use mathlib.Core.Option.{Option, none, some}
-use native.Mathlib.Omega.{arith}
+use Prim.Native.Nat.{ℕ, zero, suc, _+_, _-_, _≤_, _<_}
 use native.Mathlib.Decide.{decLt}
+use native.Mathlib.Omega.{arith}
+use borrow.Author.Tests.{le-ltb}
 use lib.ListN.{length, getD, length-append, List·getD-append}
 use lib.Seq.{getD-append-add}
-use borrow.Author.Tests.{le-ltb}
 use Rattle.pb.specs.Rules.{evaluate}
 use Rattle.pb.specs.Sum.{Sum, normal, _≥_, keep, _·_, neg, Term, units, variable}
 use Rattle.pb.proofs.Normal.{Off, Apart}

@@ -1,10 +1,10 @@
 -- The clauses that a request writes are those of the totalizer of Bailleux and Boufkhad, in the same order.
-use Prim.Native.Nat.{ℕ, zero, suc, _+_, _-_, min, _≤_, _<_}
 use mathlib.Core.Path.{_≡_, refl, sym, _∙_, ap}
 use mathlib.Core.Logic.{_≢_, dite, ite}
 use mathlib.Core.List.{List, [], _∷_, _++_, map, flatMap, append-assoc, append-nil, List·Memᴰ, List·Memᴰ·head, List·Memᴰ·tail}
-use native.Mathlib.Omega.{arith}
+use Prim.Native.Nat.{ℕ, zero, suc, _+_, _-_, min, _≤_, _<_}
 use native.Mathlib.Decide.{decLe, ℕ-discrete}
+use native.Mathlib.Omega.{arith}
 use Rattle.pb.specs.Sum.{neg}
 use Rattle.memo.proofs.Lists.{map-twice, flatMap-append}
 use Rattle.totdb.specs.Nodes.{Side, Node, leaf, join, at, leaves, len, output, range, sideLen, sideLit}

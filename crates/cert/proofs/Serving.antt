@@ -1,8 +1,8 @@
 -- A request serves the closure of what it names: what is held, stored and written is as crate `memo` has it. What each act keeps, a request keeps.
-use Prim.Native.Nat.{ℕ, zero, suc, _+_, _<_}
 use mathlib.Core.Path.{_≡_, refl, sym, _∙_, ap}
-use mathlib.Core.List.{List, [], _∷_, _++_, map, flatMap, append-nil, map-append, List·Memᴰ, Memᴰ·append-left, Memᴰ·append-right, List·Nodup}
 use mathlib.Core.Logic.{dite}
+use mathlib.Core.List.{List, [], _∷_, _++_, map, flatMap, append-nil, map-append, List·Memᴰ, Memᴰ·append-left, Memᴰ·append-right, List·Nodup}
+use Prim.Native.Nat.{ℕ, zero, suc, _+_, _<_}
 use native.Mathlib.Decide.{decLt}
 use lib.Seq.{append-snoc}
 use Rattle.pb.specs.Sum.{neg}

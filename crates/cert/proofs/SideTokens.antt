@@ -1,10 +1,10 @@
 -- The tokens of a side's definition stand for the real definition over the literals that the side hands on.
-use Prim.Native.Nat.{ℕ, zero, suc, _+_, _*_, _≤_, _<_}
 use mathlib.Core.Path.{_≡_, refl, sym, _∙_, ap, subst}
 use mathlib.Core.Logic.{dite}
 use mathlib.Core.List.{List, [], _∷_, List·Memᴰ, List·Memᴰ·head}
-use native.Mathlib.Omega.{arith}
+use Prim.Native.Nat.{ℕ, zero, suc, _+_, _*_, _≤_, _<_}
 use native.Mathlib.Decide.{decLe}
+use native.Mathlib.Omega.{arith}
 use lib.ListN.{length}
 use Rattle.pb.specs.Sum.{variable, units}
 use Rattle.pb.proofs.Normal.{Off}

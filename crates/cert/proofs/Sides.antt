@@ -1,11 +1,11 @@
 -- The tokens of a stored definition stand for the real definition over the literals that its side hands on.
-use Prim.Native.Nat.{ℕ, zero, suc, _+_, _-_, _*_, _≤_, _<_}
 use mathlib.Core.Path.{_≡_, refl, sym, _∙_, ap, subst}
 use mathlib.Core.Logic.{dite}
 use mathlib.Core.List.{List, [], _∷_, _++_, map, flatMap, map-append, append-nil, List·Memᴰ}
 use mathlib.Core.Option.{Option, none, some}
-use native.Mathlib.Omega.{arith}
+use Prim.Native.Nat.{ℕ, zero, suc, _+_, _-_, _*_, _≤_, _<_}
 use native.Mathlib.Decide.{decLe, decLt}
+use native.Mathlib.Omega.{arith}
 use lib.ListN.{length, getD, length-map, List·getD-map}
 use Rattle.pb.specs.Rules.{step, literalAxiom, literal}
 use Rattle.pb.specs.Sum.{Sum, normal, _·_, neg, variable, units, _≥_, keep}

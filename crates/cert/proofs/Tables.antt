@@ -1,12 +1,12 @@
 -- The tables that leaf and join commands make: each accepted one keeps the sides in place and the literals apart.
-use Prim.Native.Nat.{ℕ, _+_, _*_, _≤_, _<_}
 use mathlib.Core.Path.{_≡_, refl, sym, _∙_}
 use mathlib.Core.Bool.{Bool, true, false, _||_}
 use mathlib.Core.Logic.{_≢_, _⊎_, inl, inr, ⊎-elim}
 use mathlib.Core.List.{List, [], _∷_, _++_}
+use Prim.Native.Nat.{ℕ, _+_, _*_, _≤_, _<_}
+use native.Mathlib.Decide.{decLt}
 use native.Mathlib.Omega.{arith}
 use borrow.Author.Tests.{eq-eqb, ne-eqb}
-use native.Mathlib.Decide.{decLt}
 use lib.ListN.{length, length-append}
 use lib.Seq.{getD-append-seam}
 use Rattle.totdb.specs.Nodes.{Node, at, leaf, join, Side, any, isOver, taken}

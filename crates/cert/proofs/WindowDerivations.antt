@@ -1,11 +1,11 @@
 -- The derivations of a window come to its definitions.
-use Prim.Native.Nat.{ℕ, zero, suc, _+_, _-_, min, _≤_, _<_}
 use mathlib.Core.Path.{_≡_, refl, sym, _∙_, ap, subst}
 use mathlib.Core.Logic.{_≢_, _⊎_, inl, inr, dite}
 use mathlib.Core.List.{List, [], _∷_, _++_, map, map-append, List·Memᴰ, List·Memᴰ·head, List·Memᴰ·tail}
 use mathlib.Core.Option.{Option, some}
-use native.Mathlib.Omega.{arith}
+use Prim.Native.Nat.{ℕ, zero, suc, _+_, _-_, min, _≤_, _<_}
 use native.Mathlib.Decide.{decLt}
+use native.Mathlib.Omega.{arith}
 use lib.ListN.{length, length-map, length-append}
 use Rattle.pb.specs.Rules.{Token, literal, step, add, divide, saturate, literalAxiom, evaluate}
 use Rattle.pb.specs.Sum.{units, variable, coef, neg, hit, Sum, normal, clauseSum}

@@ -1,12 +1,12 @@
 -- Definitions: which there are and how they are looked up, the sums and derivations that are written for each, and what these come to.
-use mathlib.Core.List.{List, [], _∷_, _++_, map, flatMap}
 use mathlib.Core.Logic.{dite}
+use mathlib.Core.List.{List, [], _∷_, _++_, map, flatMap}
 use mathlib.Core.Option.{some}
 use Prim.Native.Nat.{ℕ, zero, suc, _+_, _-_, _*_}
 use native.Mathlib.Decide.{decLt, decLe}
 use lib.ListN.{length}
-use Rattle.pb.specs.Sum.{neg, _·_, Sum, _≥_, units, keep, normal}
 use Rattle.pb.specs.Rules.{Token, step, literal, add, divide, saturate}
+use Rattle.pb.specs.Sum.{neg, _·_, Sum, _≥_, units, keep, normal}
 use Rattle.record.specs.Record.{Record, sum, derivation, clause, deletion}
 use Rattle.record.specs.Steps.{Defined, written, derived}
 use Rattle.totdb.specs.Nodes.{Side, Node, at, leaves, len, output, range, sideLen, sideLit}

@@ -1,8 +1,8 @@
 -- Equality of requests and of keys is decided, by functions that compute.
-use Prim.Native.Nat.{ℕ}
 use mathlib.Core.Path.{_≡_, refl}
-use native.Mathlib.Omega.{arith}
+use Prim.Native.Nat.{ℕ}
 use native.Mathlib.Decide.{ℕ-discrete}
+use native.Mathlib.Omega.{arith}
 use Rattle.cert.specs.Definitions.{Direction, if, only-if, Key, real, window-zero, window}
 use Rattle.cert.specs.Requests.{Request, request}
 

@@ -1,11 +1,11 @@
 -- A request: what it needs below, the clauses it writes, and what is looked up and derived for each, as functions of a table of nodes.
 use mathlib.Core.Bool.{Bool, true, false, _||_}
-use mathlib.Core.List.{List, [], _∷_, _++_, map, flatMap}
 use mathlib.Core.Logic.{dite}
+use mathlib.Core.List.{List, [], _∷_, _++_, map, flatMap}
 use Prim.Native.Nat.{ℕ, zero, suc, _+_, _-_, min}
 use native.Mathlib.Decide.{decLe}
-use Rattle.pb.specs.Sum.{neg}
 use Rattle.pb.specs.Rules.{Token, step, literal, saturate}
+use Rattle.pb.specs.Sum.{neg}
 use Rattle.totdb.specs.Nodes.{Side, Node, leaf, join, at, len, output, range, sideLen, sideLit}
 use Rattle.cert.specs.Definitions.{Direction, if, only-if, Key, Definition, nothing, axiom-of, stored, lacking, realDef, sideDef, addText}
 

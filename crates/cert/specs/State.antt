@@ -1,13 +1,13 @@
 -- The state of the player, and what a request does to it.
-use mathlib.Core.List.{List, [], _∷_, _++_, map}
 use mathlib.Core.Logic.{dite}
+use mathlib.Core.List.{List, [], _∷_, _++_, map}
 use Prim.Native.Nat.{ℕ, zero, suc, _+_}
 use Rattle.memo.specs.Visit.{each, ask, batch}
 use Rattle.record.specs.Record.{Record, derivation, clause, steps}
 use Rattle.totdb.specs.Nodes.{Node}
 use Rattle.cert.specs.Definitions.{Direction, if, only-if, Key, real, window-zero, window, pulls, keyRecords}
-use Rattle.cert.specs.Requests.{Request, request, nodeOf, needs, Clause, clausesOf, looksOf, clauseTokens}
 use Rattle.cert.specs.Equal.{request-dec, key-dec, keyRank}
+use Rattle.cert.specs.Requests.{Request, request, nodeOf, needs, Clause, clausesOf, looksOf, clauseTokens}
 
 -- A key whose definitions are written, and the first of their steps.
 pub record Stored : Type 0 where

@@ -1,16 +1,17 @@
 -- Demand 1: every script ends in a finished log or in one refusal, and the log holds the records of the commands before it, then zeros.
 use mathlib.Core.Path.{_≡_, refl, sym, _∙_, ap, subst}
 use mathlib.Core.List.{List, [], _∷_}
-use Prim.Native.Nat.{ℕ, zero, suc}
+use Prim.Native.Nat.{ℕ, zero, suc, _≤_}
 use native.Mathlib.Omega.{arith}
-use Rattle.totlog.proofs.Scripts.{head-number, Way, too-long, no-head, bad-head, commands, way, accepted-reads}
-use Rattle.demands.proofs.Holds.{outcome-holds, holds}
 use Rattle.record.specs.Record.{Record, bytes, decodeLog}
 use Rattle.cert.specs.State.{State, start, Head}
-use Rattle.totlog.specs.Script.{Command, Commands}
 use Rattle.totlog.specs.Player.{Result, accepted, refused, play, Outcome, outcome, unrefused, plays, refusedAtHead, played}
+use Rattle.totlog.specs.Script.{Command, Commands, script, readScript}
+use Rattle.totlog.proofs.Numbers.{script-most, plays-most}
 use Rattle.totlog.proofs.Refusal.{outcome-number, outcome-place, plays-done, plays-ended, plays-accepted, plays-refused, padded, refusal}
+use Rattle.totlog.proofs.Scripts.{head-number, Way, too-long, no-head, bad-head, commands, way, accepted-reads}
 use Rattle.demands.specs.Demands.{Holds, Ends, finished, head-refused, command-refused, Demand1}
+use Rattle.demands.proofs.Holds.{outcome-holds, holds}
 
 -- A refused command has a place.
 plays-place : (h : Head) (capacity ending : ℕ) (cs : List Command) (p : ℕ) (s : State) (n : ℕ) → plays h capacity ending cs p s .number ≡ suc n
@@ -30,10 +31,10 @@ plays-place h capacity ending (c ∷ cs) p s n e = by (play h capacity c s) refl
 
 module _ (bs : List ℕ) (capacity : ℕ) where
   -- A refusal at place 0: nothing is written.
-  at-head : (n : ℕ) → played bs capacity ≡ refusedAtHead capacity (suc n) → Ends bs capacity × ((rs : List Record) × Holds (played bs capacity) rs)
+  at-head : (n : ℕ) → n ≤ 13 → played bs capacity ≡ refusedAtHead capacity (suc n) → Ends bs capacity × ((rs : List Record) × Holds (played bs capacity) rs)
   unfolding refusedAtHead outcome start bytes decodeLog
-  at-head n z = (
-    head-refused (omega (arith, ap (λ (o : Outcome). o .number) z, head-number capacity (suc n))) (ap (λ (o : Outcome). o .place) z)
+  at-head n l z = (
+    head-refused (let e = ap (λ (o : Outcome). o .number) z ∙ head-number capacity (suc n) in (omega arith, omega arith)) (ap (λ (o : Outcome). o .place) z)
         (ap (λ (o : Outcome). o .used) z),
     ([], subst (λ (o : Outcome). Holds o []) (sym z) (outcome-holds capacity (suc n) 0 (start (record { variable = 0; step = 0 })) refl)),
   )
@@ -42,23 +43,23 @@ module _ (bs : List ℕ) (capacity : ℕ) where
   unfolding unrefused
   unrefused-holds q o rs k = record { decodes = k .decodes; steps-are = k .steps-are; clauses-are = k .clauses-are }
 
-  at-command : (h : Head) (cs : Commands) → played bs capacity ≡ plays h capacity (cs .ending) (cs .list) 0 (start h) → (n : ℕ)
+  at-command : (h : Head) (cs : Commands) → readScript bs ≡ script h cs → played bs capacity ≡ plays h capacity (cs .ending) (cs .list) 0 (start h) → (n : ℕ)
       → played bs capacity .number ≡ n
       → Ends bs capacity × ((rs : List Record) × Holds (played bs capacity) rs)
-  at-command h cs z zero e =
+  at-command h cs r z zero e =
       let a = accepted-reads bs capacity e in
       let k = a .3 in (
         finished (a .0) (a .1) (a .2) (k .to-end) e (rw (k .is) (outcome-place capacity 0 _ (k .state))),
         (k .state .log, holds bs capacity (a .0) (a .1) k),
       )
-  at-command h cs z (suc n) e =
+  at-command h cs r z (suc n) e =
       let q = plays-place h capacity (cs .ending) (cs .list) 0 (start h) n (rw z at e) in
       let f : played bs capacity .place ≡ suc (q .0) = ap (λ (o : Outcome). o .place) z ∙ q .1 in
       let c = refusal capacity bs n (q .0) e f in
       let g : played (c .0) capacity .number ≡ 0 = ap (λ (o : Outcome). o .number) (c .3) ∙ (unfold unrefused in refl) in
       let a = accepted-reads (c .0) capacity g in
       let k = holds (c .0) capacity (a .0) (a .1) (a .3) in (
-        command-refused (q .0) (c .0) (c .1) (omega arith) f (c .2) (c .3),
+        command-refused (q .0) (c .0) (c .1) (omega arith, rw z (plays-most h capacity (cs .ending) (cs .list) 0 (start h) (script-most bs h cs r))) f (c .2) (c .3),
         (
           a .3 .state .log,
           unrefused-holds (q .0) (played bs capacity) (a .3 .state .log)
@@ -70,10 +71,10 @@ module _ (bs : List ℕ) (capacity : ℕ) where
   ends = by (way bs capacity)
     where
       by : Way bs capacity → Ends bs capacity × ((rs : List Record) × Holds (played bs capacity) rs)
-      by (too-long z) = at-head 0 z
-      by (no-head z) = at-head 1 z
-      by (bad-head z) = at-head 2 z
-      by (commands h cs r f short small z) = at-command h cs z (played bs capacity .number) refl
+      by (too-long z) = at-head 0 (omega arith) z
+      by (no-head z) = at-head 1 (omega arith) z
+      by (bad-head z) = at-head 2 (omega arith) z
+      by (commands h cs r f short small z) = at-command h cs r z (played bs capacity .number) refl
 
 pub demand-1 : Demand1
 unfolding Demand1

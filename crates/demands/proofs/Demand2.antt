@@ -2,8 +2,6 @@
 use mathlib.Core.Path.{_≡_, _∙_}
 use mathlib.Core.List.{List}
 use Prim.Native.Nat.{ℕ}
-use Rattle.totlog.proofs.Scripts.{accepted-script}
-use Rattle.demands.proofs.Holds.{holds}
 use Rattle.memo.proofs.Lists.{flatMap-agree}
 use Rattle.totdb.specs.Nodes.{Node}
 use Rattle.cert.specs.Requests.{Request, request, literalsOf}
@@ -11,13 +9,15 @@ use Rattle.cert.specs.State.{Head, State, start, keys}
 use Rattle.cert.specs.Totalizer.{totalizer}
 use Rattle.cert.proofs.Apart.{Right}
 use Rattle.cert.proofs.Schema.{clauses-schema}
-use Rattle.totlog.specs.Script.{Command}
 use Rattle.totlog.specs.Called.{table}
+use Rattle.totlog.specs.Script.{Command}
 use Rattle.totlog.proofs.ClauseSteps.{clause-steps}
 use Rattle.totlog.proofs.Matching.{held-from, held-has, held-once, held-right, held-clauses, keys-from, keys-has, keys-once}
 use Rattle.totlog.proofs.Runs.{AllPassed}
+use Rattle.totlog.proofs.Scripts.{accepted-script}
 use Rattle.demands.specs.Demands.{Proved, Demand2}
 use Rattle.demands.proofs.Demand3.{sums-are}
+use Rattle.demands.proofs.Holds.{holds}
 
 as-schema : (t : List Node) (x : Request) → Right t x → literalsOf t x ≡ totalizer t x
 unfolding Right

@@ -3,20 +3,20 @@ use mathlib.Core.Path.{_≡_, sym, _∙_, ap, subst}
 use mathlib.Core.List.{List, flatMap, Perm, Perm·refl, Perm·trans, Perm·symm}
 use Prim.Native.Nat.{ℕ, _+_}
 use lib.ListN.{length}
-use Rattle.totlog.proofs.Scripts.{accepted-script}
-use Rattle.demands.proofs.Holds.{holds, nodes-are}
 use Rattle.memo.proofs.Lists.{length-perm}
 use Rattle.record.specs.Record.{steps, clauses}
 use Rattle.record.specs.Steps.{defined}
 use Rattle.totdb.specs.Nodes.{Node}
 use Rattle.cert.specs.Definitions.{definedBy}
 use Rattle.cert.specs.State.{State, start, keys, Head}
-use Rattle.totlog.specs.Script.{Command}
 use Rattle.totlog.specs.Called.{table}
+use Rattle.totlog.specs.Script.{Command}
 use Rattle.totlog.proofs.Defines.{defines-exactly}
 use Rattle.totlog.proofs.Matching.{nodes-table, clauses-from, clauses-has, clauses-once, keys-from, keys-has, keys-once, steps-count, same-table, same-clauses, same-sums, same-steps}
 use Rattle.totlog.proofs.Runs.{AllPassed}
+use Rattle.totlog.proofs.Scripts.{accepted-script}
 use Rattle.demands.specs.Demands.{Listed, Demand3}
+use Rattle.demands.proofs.Holds.{holds, nodes-are}
 
 module _ (h : Head) (capacity : ℕ) (cs : List Command) (u : State) (a : AllPassed h capacity cs (start h) u) where
   -- The sums that the log defines are those of the keys stored.

@@ -7,12 +7,12 @@ use lib.ListN.{length, replicate}
 use lib.Seq.{take-append-seam}
 use Rattle.record.specs.Record.{bytes, decodeLog}
 use Rattle.cert.specs.State.{Head, State}
-use Rattle.totlog.specs.Script.{Commands}
-use Rattle.totlog.specs.Player.{Outcome, outcome, played}
 use Rattle.totlog.specs.Called.{table}
-use Rattle.totlog.proofs.Scripts.{Accepted}
+use Rattle.totlog.specs.Player.{Outcome, outcome, played}
+use Rattle.totlog.specs.Script.{Commands}
 use Rattle.totlog.proofs.Decoded.{log-decodes}
 use Rattle.totlog.proofs.Matching.{nodes-table}
+use Rattle.totlog.proofs.Scripts.{Accepted}
 use Rattle.demands.specs.Demands.{Holds}
 
 pub outcome-holds : (capacity n p : ℕ) (s : State) → decodeLog (bytes (s .log)) ≡ some (s .log) → Holds (outcome capacity n p s) (s .log)

@@ -8,9 +8,9 @@ use Rattle.record.specs.Record.{Record}
 use Rattle.cert.specs.Definitions.{if, only-if}
 use Rattle.cert.specs.Requests.{Request, request}
 use Rattle.cert.specs.State.{Head}
-use Rattle.totlog.specs.Script.{Command, Commands, readScript}
-use Rattle.totlog.specs.Player.{played}
 use Rattle.totlog.specs.Called.{makes, asked}
+use Rattle.totlog.specs.Player.{played}
+use Rattle.totlog.specs.Script.{Command, Commands, readScript}
 use Rattle.demands.specs.Demands.{Ends, Holds, Proved, Alike, Matching, Demand1, Demand2, Demand3}
 use Rattle.demands.proofs.Demand1.{demand-1}
 use Rattle.demands.proofs.Demand2.{demand-2}

@@ -2,19 +2,19 @@
 use mathlib.Core.Path.{_≡_}
 use mathlib.Core.List.{List, _++_, flatMap, List·Memᴰ, List·Nodup, Perm}
 use mathlib.Core.Option.{some}
-use Prim.Native.Nat.{ℕ, suc, _+_, _<_}
+use Prim.Native.Nat.{ℕ, suc, _+_, _≤_}
 use lib.ListN.{length, take}
-use Rattle.cert.specs.State.{Head}
 use Rattle.pb.specs.Sum.{normal, clauseSum}
 use Rattle.memo.specs.Closure.{Same}
 use Rattle.record.specs.Record.{Record, steps, clauses, decodeLog}
 use Rattle.record.specs.Steps.{stepOf, defined}
 use Rattle.cert.specs.Definitions.{Key, definedBy}
 use Rattle.cert.specs.Requests.{Request}
+use Rattle.cert.specs.State.{Head}
 use Rattle.cert.specs.Totalizer.{totalizer}
-use Rattle.totlog.specs.Script.{Command, Commands, script, readScript}
-use Rattle.totlog.specs.Player.{Outcome, Padded, unrefused, played}
 use Rattle.totlog.specs.Called.{makes, asked, table, Closure, Called, KeyCalled}
+use Rattle.totlog.specs.Player.{Outcome, Padded, unrefused, played}
+use Rattle.totlog.specs.Script.{Command, Commands, script, readScript}
 
 -- ---- an outcome and its records
 
@@ -28,13 +28,17 @@ pub record Holds (o : Outcome) (rs : List Record) : Type 0 where
 -- "Every script of bytes ends in a finished log, or in one refusal number and the command it fell on; nothing outside the lent memory is touched,
 -- and the log holds exactly the records of the commands before the refused one, then zeros."
 
+-- One refusal number, that of a question.
+abbrev pub Refused : Outcome → Type 0
+Refused o = (1 ≤ o .number) × (o .number ≤ 14)
+
 -- The script ran to its end; or its head was refused and nothing was written; or the command at place q + 1 was refused, and all but number and
 -- place is as for the script cut before that command.
 pub data Ends (bs : List ℕ) (capacity : ℕ) : Type 0 where
   finished : (h : Head) (cs : Commands) → readScript bs ≡ script h cs → cs .ending ≡ 0 → played bs capacity .number ≡ 0
       → played bs capacity .place ≡ length (cs .list) → Ends bs capacity
-  head-refused : 0 < played bs capacity .number → played bs capacity .place ≡ 0 → played bs capacity .used ≡ 0 → Ends bs capacity
-  command-refused : (q : ℕ) (pre suf : List ℕ) → 0 < played bs capacity .number → played bs capacity .place ≡ suc q → bs ≡ pre ++ suf
+  head-refused : Refused (played bs capacity) → played bs capacity .place ≡ 0 → played bs capacity .used ≡ 0 → Ends bs capacity
+  command-refused : (q : ℕ) (pre suf : List ℕ) → Refused (played bs capacity) → played bs capacity .place ≡ suc q → bs ≡ pre ++ suf
       → played pre capacity ≡ unrefused q (played bs capacity) → Ends bs capacity
 
 unfoldable pub Demand1 : Type 0

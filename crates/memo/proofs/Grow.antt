@@ -1,8 +1,8 @@
 -- Nodes are made between the requests. The rules of an item or a key depend on the nodes there are, and later nodes do not change them.
 -- So a script in which both alternate is one over the final nodes, and two scripts that make the same nodes and want the same items match.
-use Prim.Native.Nat.{_+_}
 use mathlib.Core.Path.{_≡_, refl, _∙_}
 use mathlib.Core.List.{List, [], _∷_, _++_, flatMap, List·Memᴰ, List·Memᴰ·not-nil, Perm}
+use Prim.Native.Nat.{_+_}
 use lib.ListN.{length}
 use lib.Seq.{append-snoc}
 use Rattle.memo.specs.Closure.{Same}

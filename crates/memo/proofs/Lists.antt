@@ -1,11 +1,11 @@
 -- Facts about lists that the library lacks: decided membership as data, duplicates and permutations under flatMap, and the length of a permutation.
-use Prim.Native.Nat.{suc}
 use mathlib.Core.Path.{_≡_, refl, sym, _∙_, ap, subst}
-use mathlib.Core.Logic.{_⊎_, inl, inr, ⊎-elim, dite, ∥∥₁-elim, ∥∥₁-map}
 use mathlib.Core.HLevel.{⊥-prop}
+use mathlib.Core.Logic.{_⊎_, inl, inr, ⊎-elim, dite, ∥∥₁-elim, ∥∥₁-map}
 use mathlib.Core.List.{List, [], _∷_, _++_, map, flatMap, append-assoc, List·Mem, List·Memᴰ, List·Memᴰ·head, List·Memᴰ·tail, List·Memᴰ·cases-cons, List·Memᴰ·not-nil, List·Memᴰ·append-cases, Memᴰ·append-left, Memᴰ·append-right, Memᴰ·cast, Memᴰ·of-map, List·Permᴰ, List·Permᴰ·nil, List·Permᴰ·cons, List·Permᴰ·swap, List·Permᴰ·trans, Permᴰ·append-left, Permᴰ·append-right, List·Permᴰ·append-comm, Perm, List·Nodup, nodup-nil, nodup-cons, nodup-append, perm-ext-iff-of-nodup}
-use lib.ListN.{length}
+use Prim.Native.Nat.{suc}
 use native.Mathlib.Nat.{ℕ-set}
+use lib.ListN.{length}
 use Rattle.memo.specs.Closure.{Same}
 use Rattle.memo.specs.Visit.{fresh, decMemᴰ}
 

@@ -1,9 +1,9 @@
 -- A machine whose state is more than the list of what is served: `view` reads that list from the state, and `emit` does an item's own work.
 -- Its list is the list of `serve`, and what each `emit` keeps, the whole run keeps.
-use Prim.Native.Nat.{ℕ, zero, suc, _<_}
 use mathlib.Core.Path.{_≡_, refl, sym, _∙_, ap}
 use mathlib.Core.Logic.{⊎-elim, dite}
 use mathlib.Core.List.{List, [], _∷_, _++_, flatMap, append-nil, List·Memᴰ, List·Memᴰ·head, List·Memᴰ·tail, List·Memᴰ·append-cases, List·Memᴰ·eq-of-singleton, Memᴰ·append-left, Memᴰ·cast, List·Nodup, nodup-cons}
+use Prim.Native.Nat.{ℕ, zero, suc, _<_}
 use native.Mathlib.Omega.{arith}
 use lib.Seq.{append-snoc}
 use Rattle.memo.specs.Visit.{each, visit, decMemᴰ, ask, batch, fresh}

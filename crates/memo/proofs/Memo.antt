@@ -1,8 +1,8 @@
 -- The definitions that the items look up, each stored at its first lookup after what it pulls in, and the clauses, a group for each item.
 -- Two runs with the same set of requests write the same clauses, each once, and the same definitions, each once, with the same sums.
-use Prim.Native.Nat.{ℕ, _+_}
 use mathlib.Core.Path.{_≡_, subst}
 use mathlib.Core.List.{List, [], _∷_, _++_, flatMap, append-nil, List·Memᴰ, Perm, List·Nodup}
+use Prim.Native.Nat.{ℕ, _+_}
 use lib.ListN.{length}
 use Rattle.memo.specs.Closure.{From, Same}
 use Rattle.memo.specs.Visit.{batch}

@@ -1,10 +1,10 @@
 -- Items that need other items of lower rank, served in order and each once: needs first, then the item itself.
 -- What is served is the closure of the requests, without duplicates, whatever the order of the requests and however often one is repeated.
-use Prim.Native.Nat.{ℕ, zero, suc, _≤_, _<_}
 use mathlib.Core.Path.{_≡_, refl, sym, ap, subst}
-use mathlib.Core.Logic.{_⊎_, inl, inr, ⊎-elim, dite, ∥∥₁-elim}
 use mathlib.Core.HLevel.{⊥-prop}
+use mathlib.Core.Logic.{_⊎_, inl, inr, ⊎-elim, dite, ∥∥₁-elim}
 use mathlib.Core.List.{List, [], _∷_, _++_, flatMap, append-nil, List·Memᴰ, List·Memᴰ·head, List·Memᴰ·tail, List·Memᴰ·cases-cons, List·Memᴰ·not-nil, List·Memᴰ·append-cases, List·Memᴰ·eq-of-singleton, Memᴰ·append-left, Memᴰ·append-right, Memᴰ·cast, Perm, List·Nodup, nodup-nil, nodup-cons, nodup-append}
+use Prim.Native.Nat.{ℕ, zero, suc, _≤_, _<_}
 use native.Mathlib.Omega.{arith}
 use Rattle.memo.specs.Closure.{From, Reach, reach-here, reach-down, Same}
 use Rattle.memo.specs.Visit.{each, decMemᴰ}

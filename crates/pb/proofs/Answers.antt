@@ -3,8 +3,8 @@ use mathlib.Core.Path.{_≡_, refl}
 use mathlib.Core.List.{List, [], _∷_, map}
 use mathlib.Core.Option.{Option, none, some}
 use Prim.Native.Nat.{ℕ, zero, suc}
-use Rattle.pb.specs.Sum.{_·_, Sum, _≥_, normal}
 use Rattle.pb.specs.Rules.{Token, step, literal, add, divide, saturate, evaluate}
+use Rattle.pb.specs.Sum.{_·_, Sum, _≥_, normal}
 
 -- Step 1 is 2 x0 + 3 x1 ≥ 4, step 2 is 1 ¬x0 + 1 ¬x1 ≥ 1; there are no others.
 unfoldable pub steps : ℕ → Option Sum

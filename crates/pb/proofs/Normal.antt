@@ -3,8 +3,8 @@ use mathlib.Core.Path.{_≡_, refl, sym, ap, ap₂, _∙_}
 use mathlib.Core.Logic.{_≢_, _⊎_, inl, inr}
 use mathlib.Core.List.{List, [], _∷_}
 use Prim.Native.Nat.{ℕ, zero, suc, _+_, _-_, _*_, min, _≤_, _<_}
-use native.Mathlib.Omega.{arith}
 use native.Mathlib.Decide.{ℕ-discrete, decLt}
+use native.Mathlib.Omega.{arith}
 use Rattle.pb.specs.Rules.{each}
 use Rattle.pb.specs.Sum.{hit, insert, Term, _·_, variable, variables, coef, kept, net, keep, lost, Sum, normal, _≥_, neg}
 use Rattle.pb.proofs.Terms.{hit-zero, hit-other, insert-nil, insert-cases, Placed, hit-same, coef-nil, coef-cons, polarity, variable-even, variable-odd, kept-nil, kept-cons, coef-keep, net-is, hit-cases, lost-nil, lost-cons, neg-even, neg-odd, normal-is, neg-neg, variable-neg, neg-self}

@@ -3,8 +3,8 @@ use mathlib.Core.Path.{_≡_, refl}
 use mathlib.Core.List.{List, [], _∷_}
 use mathlib.Core.Option.{some}
 use Prim.Native.Nat.{ℕ}
-use Rattle.pb.specs.Sum.{_·_}
 use Rattle.pb.specs.Rules.{step, literal, add, divide, saturate}
+use Rattle.pb.specs.Sum.{_·_}
 use Rattle.record.specs.Record.{Record, sum, derivation, clause, deletion, bytes, decodeLog}
 
 unfoldable pub records : List Record

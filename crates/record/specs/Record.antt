@@ -4,8 +4,8 @@ use mathlib.Core.Option.{Option, none, some}
 use Prim.Native.Nat.{ℕ, zero, suc}
 use lib.ListN.{length}
 use Rattle.number.specs.Number.{encodeIn, encode, number, bad, above, readIn, read}
-use Rattle.pb.specs.Sum.{Term, _·_}
 use Rattle.pb.specs.Rules.{Token, step, literal, add, divide, saturate}
+use Rattle.pb.specs.Sum.{Term, _·_}
 
 -- A sum with its witness (the literal made true plus 1, or 0) and its bound; a derivation; a clause with its step; a deletion of steps.
 pub data Record : Type 0 where

@@ -5,8 +5,8 @@ use mathlib.Core.Option.{Option, none, some}
 use Prim.Native.Nat.{ℕ, suc, _-_}
 use lib.Dec.{ltb, eqb}
 use lib.ListN.{getD}
-use Rattle.pb.specs.Sum.{Term, Sum, _≥_, normal}
 use Rattle.pb.specs.Rules.{evaluate}
+use Rattle.pb.specs.Sum.{Term, Sum, _≥_, normal}
 use Rattle.record.specs.Record.{Record, sum, derivation, clause, deletion}
 
 -- ---- the steps of a log

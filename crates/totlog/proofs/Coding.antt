@@ -6,12 +6,13 @@ use Prim.Native.Nat.{ℕ, zero, suc, _+_, _^_, _≤_, _<_}
 use native.Mathlib.Omega.{arith}
 use lib.ListN.{length, length-append}
 use lib.Seq.{getD-append-add}
-use Rattle.cert.specs.State.{Head}
 use Rattle.number.specs.Number.{groups, Bytes, encode, Front, number, bad, read}
 use Rattle.number.proofs.Laws.{encode-some, read-encode, read-number}
 use Rattle.memo.proofs.Lists.{flatMap-append}
 use Rattle.record.proofs.Decode.{Small}
+use Rattle.cert.specs.State.{Head}
 use Rattle.totlog.specs.Script.{Command, leaf, join, request, close, Next, command, refuse, end, get, arguments, readCommand, closes, Commands, stop, before, readCommands, script, readScript, commandNumbers, scriptBytes}
+use Rattle.totlog.proofs.Refusal.{head-read}
 
 -- ---- what is written reads
 
@@ -173,36 +174,36 @@ unfolding readCommand
 command-written closed [] c rest h e = absurd (let z : _≡_ {A = ℕ} 0 1 = cc in omega arith)
 command-written closed (b ∷ bs) c rest h e = let p = spells-code closed (b ∷ bs) c rest h e in (p .1 ∙ rw (p .2), p .3)
 
--- A reader of a command's numbers never says that the script ends, nor refuses with 0.
+-- A reader of a command's numbers never says that the script ends, and refuses with a number from 1 to 5.
 abbrev Proper : (List ℕ → Next) → Type 0
-Proper f = (bs : List ℕ) → (f bs ≡ end → ⊥) × ((n : ℕ) → f bs ≡ refuse n → 0 < n)
+Proper f = (bs : List ℕ) → (f bs ≡ end → ⊥) × ((n : ℕ) → f bs ≡ refuse n → (0 < n) × (n ≤ 5))
 
 proper-done : (c : Command) → Proper (command c)
 proper-done c bs = (λ e. let z : _≡_ {A = ℕ} 0 1 = cc in omega arith, λ n e. absurd (let z : _≡_ {A = ℕ} 0 1 = cc in omega arith))
 
-proper-refuse : (m : ℕ) → 0 < m → Proper (λ bs. refuse m)
-proper-refuse m h bs = (λ e. let z : _≡_ {A = ℕ} 0 1 = cc in omega arith, λ n e. let z : m ≡ n = cc in omega arith)
+proper-refuse : (m : ℕ) → 0 < m → m ≤ 5 → Proper (λ bs. refuse m)
+proper-refuse m h k bs = (λ e. let z : _≡_ {A = ℕ} 0 1 = cc in omega arith, λ n e. let z : m ≡ n = cc in omega arith)
 
 proper-get : (f : ℕ → List ℕ → Next) → ((x : ℕ) → Proper (f x)) → Proper (λ bs. get bs f)
 unfolding get
 proper-get f l bs = by (read bs) refl
   where
-    by : (t : Front) → read bs ≡ t → (get bs f ≡ end → ⊥) × ((n : ℕ) → get bs f ≡ refuse n → 0 < n)
-    by bad k = rw (k, get) (proper-refuse 2 (omega arith) bs)
+    by : (t : Front) → read bs ≡ t → (get bs f ≡ end → ⊥) × ((n : ℕ) → get bs f ≡ refuse n → (0 < n) × (n ≤ 5))
+    by bad k = rw (k, get) (proper-refuse 2 (omega arith) (omega arith) bs)
     by (number x r) k = rw (k, get) (l x r)
 
 proper-arguments : (n : ℕ) → Proper (arguments n)
 unfolding arguments
-proper-arguments zero = proper-refuse 5 (omega arith)
+proper-arguments zero = proper-refuse 5 (omega arith) (omega arith)
 proper-arguments (suc zero) = proper-get _ (λ l. proper-done _)
 proper-arguments (suc (suc zero)) =
     proper-get _ (λ n. proper-get _ (λ f. proper-get _ (λ k. proper-get _ (λ m. proper-get _ (λ g. proper-get _ (λ j. proper-done _))))))
 proper-arguments (suc (suc (suc zero))) = proper-get _ (λ n. proper-get _ (λ v. proper-get _ (λ d. proper-done _)))
 proper-arguments (suc (suc (suc (suc zero)))) = proper-done close
-proper-arguments (suc (suc (suc (suc (suc n))))) = proper-refuse 5 (omega arith)
+proper-arguments (suc (suc (suc (suc (suc n))))) = proper-refuse 5 (omega arith) (omega arith)
 
 proper-code : (closed : Bool) → Proper (λ bs. get bs (λ c r. elim closed [ true ↦ refuse 4 | false ↦ arguments c r ]))
-proper-code true = proper-get _ (λ c. proper-refuse 4 (omega arith))
+proper-code true = proper-get _ (λ c. proper-refuse 4 (omega arith) (omega arith))
 proper-code false = proper-get _ proper-arguments
 
 at-end : (closed : Bool) (bs : List ℕ) → readCommand closed bs ≡ end → bs ≡ []
@@ -210,10 +211,10 @@ unfolding readCommand
 at-end closed [] e = refl
 at-end closed (b ∷ bs) e = absurd (proper-code closed (b ∷ bs) .0 e)
 
-refused-some : (closed : Bool) (bs : List ℕ) (n : ℕ) → readCommand closed bs ≡ refuse n → 0 < n
+pub refused-number : (closed : Bool) (bs : List ℕ) (n : ℕ) → readCommand closed bs ≡ refuse n → (0 < n) × (n ≤ 5)
 unfolding readCommand
-refused-some closed [] n e = absurd (let z : _≡_ {A = ℕ} 0 1 = cc in omega arith)
-refused-some closed (b ∷ bs) n e = proper-code closed (b ∷ bs) .1 n e
+refused-number closed [] n e = absurd (let z : _≡_ {A = ℕ} 0 1 = cc in omega arith)
+refused-number closed (b ∷ bs) n e = proper-code closed (b ∷ bs) .1 n e
 
 -- To the end of the bytes.
 commands-written : (k : ℕ) (closed : Bool) (bs : List ℕ) → length bs ≤ k → Bytes bs → readCommands k closed bs .ending ≡ 0
@@ -227,7 +228,7 @@ commands-written (suc k) closed bs l h e = by (readCommand closed bs) refl (comm
         → ((d : Bool) (r : List ℕ) → length r ≤ k → Bytes r → readCommands k d r .ending ≡ 0
         → r ≡ flatMap encode (flatMap commandNumbers (readCommands k d r .list)))
         → bs ≡ flatMap encode (flatMap commandNumbers (readCommands (suc k) closed bs .list))
-    by (refuse n) q ih = absurd (omega (arith, refused-some closed bs n q, rw (q, readCommands) at e))
+    by (refuse n) q ih = absurd (omega (arith, refused-number closed bs n q .0, rw (q, readCommands) at e))
     by end q ih = rw (q, readCommands) (at-end closed bs q)
     by (command c rest) q ih =
         let p = command-written closed bs c rest h q in
@@ -237,22 +238,13 @@ commands-written (suc k) closed bs l h e = by (readCommand closed bs) refl (comm
 
 pub script-written : (bs : List ℕ) (h : Head) (cs : Commands) → Bytes bs → readScript bs ≡ script h cs → cs .ending ≡ 0
     → bs ≡ scriptBytes h (cs .list)
-unfolding readScript scriptBytes flatMap
-script-written bs h cs w e z = one (read bs) refl
-  where
-    two : (v : ℕ) (r : List ℕ) → read bs ≡ number v r → (t : Front) → read r ≡ t
-        → bs ≡ encode (h .variable) ++ (encode (h .step) ++ flatMap encode (flatMap commandNumbers (cs .list)))
-    two v r p bad q = absurd (let k = rw (p, readScript, q) at e in let x : _≡_ {A = ℕ} 0 1 = cc in omega arith)
-    two v r p (number n u) q =
-        let k : script (record { variable = v; step = n }) (readCommands (length u) false u) ≡ script h cs = rw (p, readScript, q) at e in
-        let g : record { variable = v; step = n } ≡ h = cc in
-        let l : readCommands (length u) false u ≡ cs = cc in
-        let a = read-number bs w p in
-        let b = read-number r (bytes-rest v r (rw (a .0) at w)) q in
-        let f : Bytes u = bytes-rest n u (rw (b .0) at (bytes-rest v r (rw (a .0) at w))) in
-        let c = commands-written (length u) false u (omega arith) f (rw l z) in
-        rw (← g, ← l) (a .0 ∙ ap (λ (y : List ℕ). encode v ++ y) (b .0 ∙ ap (λ (y : List ℕ). encode n ++ y) c))
-
-    one : (t : Front) → read bs ≡ t → bs ≡ encode (h .variable) ++ (encode (h .step) ++ flatMap encode (flatMap commandNumbers (cs .list)))
-    one bad p = absurd (let k = rw (p, readScript) at e in let x : _≡_ {A = ℕ} 0 1 = cc in omega arith)
-    one (number v r) p = two v r p (read r) refl
+unfolding scriptBytes flatMap
+script-written bs h cs w e z =
+    let r = head-read bs h cs e in
+    let a = read-number bs w (r .one) in
+    let v = bytes-rest (h .variable) (r .after-one) (rw (a .0) at w) in
+    let b = read-number (r .after-one) v (r .two) in
+    let u = bytes-rest (h .step) (r .after-two) (rw (b .0) at v) in
+    let c = commands-written (length (r .after-two)) false (r .after-two) (omega arith) u (rw (r .rest) z) in
+    let d : r .after-two ≡ flatMap encode (flatMap commandNumbers (cs .list)) = rw (r .rest) at c in
+    a .0 ∙ ap (λ (y : List ℕ). encode (h .variable) ++ y) (b .0 ∙ ap (λ (y : List ℕ). encode (h .step) ++ y) d)

@@ -1,17 +1,17 @@
 -- Every command keeps the count: a step for each sum defined and for each clause.
-use Prim.Native.Nat.{ℕ}
 use mathlib.Core.Path.{_≡_, refl, sym, _∙_, ap, subst}
 use mathlib.Core.Bool.{Bool, true, false}
 use mathlib.Core.List.{List, [], _∷_, _++_}
+use Prim.Native.Nat.{ℕ}
 use native.Mathlib.Omega.{arith}
 use lib.ListN.{length, length-append}
-use Rattle.cert.proofs.Counts.{steps-append, defined-more, CountedIn, Counted, counted-start, counted-serve}
 use Rattle.memo.proofs.Lists.{flatMap-agree}
 use Rattle.record.specs.Record.{steps, deletion, clauses}
 use Rattle.totdb.specs.Nodes.{Node, len, known, leaf, joined}
 use Rattle.cert.specs.Definitions.{Key, definedBy}
 use Rattle.cert.specs.State.{State, keys, start, serve, requests, Head}
 use Rattle.cert.proofs.Apart.{sized-ok}
+use Rattle.cert.proofs.Counts.{steps-append, defined-more, CountedIn, Counted, counted-start, counted-serve}
 use Rattle.cert.proofs.Rules.{KeyIn}
 use Rattle.cert.proofs.Serving.{clauses-append}
 use Rattle.totlog.specs.Player.{make, delete, storedSteps, firstNo, questions, act}

@@ -1,16 +1,15 @@
 -- The log of an accepted script reads back as the records that were written.
-use Prim.Native.Nat.{ℕ, zero, suc, _+_, _-_, _*_, _≤_, _<_, _^_}
 use mathlib.Core.Path.{_≡_, refl, sym, ap, subst}
 use mathlib.Core.Bool.{Bool, true, false, _&&_}
 use mathlib.Core.Logic.{⊎-elim, dite}
 use mathlib.Core.List.{List, [], _∷_, _++_, map, flatMap, List·Memᴰ, List·Memᴰ·head, List·Memᴰ·tail, List·Memᴰ·not-nil, List·Memᴰ·append-cases, List·Memᴰ·eq-of-singleton, Memᴰ·map, Memᴰ·of-map}
 use mathlib.Core.Option.{some}
+use Prim.Native.Nat.{ℕ, zero, suc, _+_, _-_, _*_, _≤_, _<_, _^_}
+use native.Mathlib.Decide.{decLe}
 use native.Mathlib.Omega.{arith}
 use borrow.Author.Tests.{leb-true}
-use native.Mathlib.Decide.{decLe}
-use lib.ListN.{length, length-append}
 use lib.Dec.{leb}
-use Rattle.cert.proofs.Counts.{key-count, Counted, counted-start, defined-more}
+use lib.ListN.{length, length-append}
 use Rattle.number.specs.Number.{groups}
 use Rattle.pb.specs.Sum.{neg}
 use Rattle.memo.proofs.Lists.{flatMap-append}
@@ -22,6 +21,7 @@ use Rattle.cert.specs.Equal.{key-dec}
 use Rattle.cert.specs.Requests.{negPart, posPart, Clause, Request, clausesOf, clausesAt, request, ifClause, splits, onlyIfClause, clauseTokens}
 use Rattle.cert.specs.State.{State, Stored, fromIn, stepIn, define, write, hold, serve, start, keys, requests, Head}
 use Rattle.cert.proofs.Apart.{range-mem, Sized, Fit, Right, splits-mem, sized-ok}
+use Rattle.cert.proofs.Counts.{key-count, Counted, counted-start, defined-more}
 use Rattle.cert.proofs.Fits.{KeyFits, request-falls, key-falls, looked-fit}
 use Rattle.cert.proofs.Serving.{serve-keeps, Asked}
 use Rattle.totlog.specs.Player.{make, storedSteps, delete, firstNo, questions, act, headFits}

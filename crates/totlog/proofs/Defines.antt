@@ -1,19 +1,16 @@
 -- The sums that an accepted log defines, its derivations worked out, are those of the keys stored, in the order of the log.
-use Prim.Native.Nat.{ℕ, zero, suc, _+_, _-_, _≤_, _<_}
 use mathlib.Core.Path.{_≡_, refl, sym, _∙_, ap, subst}
 use mathlib.Core.Bool.{Bool, true, false, _||_}
 use mathlib.Core.Logic.{_≢_, dite}
 use mathlib.Core.List.{List, [], _∷_, _++_, map, flatMap, append-nil, List·Memᴰ, List·Memᴰ·not-nil, Memᴰ·map}
 use mathlib.Core.Option.{Option, none, some}
-use native.Mathlib.Omega.{arith}
+use Prim.Native.Nat.{ℕ, zero, suc, _+_, _-_, _≤_, _<_}
 use native.Mathlib.Decide.{decLt}
+use native.Mathlib.Omega.{arith}
+use borrow.Author.Tests.{le-ltb}
 use lib.Dec.{eqb, eqb→eq, eqb-refl}
 use lib.ListN.{length, getD, length-append, length-map, List·getD-append}
 use lib.Seq.{getD-append-add}
-use borrow.Author.Tests.{le-ltb}
-use Rattle.cert.proofs.Distinct.{Distinct, distinct-nil}
-use Rattle.cert.proofs.Counts.{key-count, Counted, counted-start, defined-more}
-use Rattle.cert.proofs.Known.{sumOf, knownOf, KnownIn, sums-length, sums-grow, sums-append, known-define, key-sums, known-more, Segment}
 use Rattle.pb.specs.Rules.{Token}
 use Rattle.pb.specs.Sum.{Sum, neg, Term}
 use Rattle.memo.proofs.Lists.{flatMap-append, flatMap-agree}
@@ -24,7 +21,10 @@ use Rattle.cert.specs.Definitions.{realRecords, asWritten, atLeastZero, realIf,
 use Rattle.cert.specs.Requests.{Clause, clauseTokens, Request}
 use Rattle.cert.specs.State.{State, keys, define, stepIn, write, hold, serve, start, Stored, requests, Head}
 use Rattle.cert.proofs.Apart.{Sized, Right, sized-ok}
+use Rattle.cert.proofs.Counts.{key-count, Counted, counted-start, defined-more}
+use Rattle.cert.proofs.Distinct.{Distinct, distinct-nil}
 use Rattle.cert.proofs.Fits.{KeyFits, request-falls, key-falls, looked-fit}
+use Rattle.cert.proofs.Known.{sumOf, knownOf, KnownIn, sums-length, sums-grow, sums-append, known-define, key-sums, known-more, Segment}
 use Rattle.cert.proofs.Serving.{define-keys, Asked, serve-keeps}
 use Rattle.totlog.specs.Player.{make, firstNo, questions, act, delete, storedSteps}
 use Rattle.totlog.specs.Script.{Command}

@@ -1,20 +1,20 @@
 -- Accepted commands keep the variables of the table different: nodes stand under one join each.
-use Prim.Native.Nat.{ℕ, zero, suc, _+_, _≤_, _<_}
 use mathlib.Core.Path.{_≡_, refl, sym, _∙_, ap, subst}
 use mathlib.Core.Bool.{Bool, true, false, _&&_, _||_, not as notb}
 use mathlib.Core.Logic.{_≢_, _⊎_, inl, inr, ⊎-elim}
 use mathlib.Core.List.{List, [], _∷_, _++_, List·Memᴰ, List·Memᴰ·not-nil, List·Memᴰ·append-cases, List·Memᴰ·eq-of-singleton, Memᴰ·of-map}
+use Prim.Native.Nat.{ℕ, zero, suc, _+_, _≤_, _<_}
+use native.Mathlib.Decide.{ℕ-discrete}
 use native.Mathlib.Omega.{arith}
 use borrow.Author.Tests.{ltb-true, not-true}
-use native.Mathlib.Decide.{ℕ-discrete}
-use lib.ListN.{length}
 use lib.Dec.{ltb}
-use Rattle.cert.proofs.Distinct.{Different, different-append, LeftApart, Owner, Distinct, true≢false, or-left, or-right, owner-apart, old, distinct-snoc, shifted, higher}
+use lib.ListN.{length}
 use Rattle.pb.specs.Sum.{variable, neg}
 use Rattle.pb.proofs.Terms.{same-variable}
 use Rattle.totdb.specs.Nodes.{Node, len, at, output, leaf, taken, leaves, Side, join, range, isOver, sideLeaves, sideLen, sideOutputs, sideLit, plainOr, known, leafCount, joined}
 use Rattle.cert.specs.State.{State, requests, Head}
 use Rattle.cert.proofs.Apart.{range-mem, sized-ok}
+use Rattle.cert.proofs.Distinct.{Different, different-append, LeftApart, Owner, Distinct, true≢false, or-left, or-right, owner-apart, old, distinct-snoc, shifted, higher}
 use Rattle.cert.proofs.Tables.{length-snoc, at-last, taken-snoc, over-left, over-right}
 use Rattle.totlog.specs.Player.{firstNo, questions, ask, act, make, delete}
 use Rattle.totlog.specs.Script.{Command}

@@ -1,15 +1,14 @@
 -- Facts alike at several lengths, for a general one: values, windows, leaves and the log's length at their limits.
-use Prim.Native.Nat.{ℕ, suc, _+_, _-_, _*_, _≤_, _<_}
 use mathlib.Core.Path.{_≡_, refl, sym, _∙_, ap, subst}
 use mathlib.Core.Bool.{Bool, true, false, _&&_, not as notb}
 use mathlib.Core.Logic.{_≢_}
 use mathlib.Core.List.{List, [], _∷_, _++_, map, flatMap}
+use Prim.Native.Nat.{ℕ, suc, _+_, _-_, _*_, _≤_, _<_}
 use native.Mathlib.Omega.{arith}
 use borrow.Author.Tests.{lt-ltb, le-ltb, le-leb, lt-leb, eq-eqb, ne-eqb, ltb-true, leb-true, leb-false, eqb-true}
 use lib.Dec.{leb, ltb, eqb}
 use lib.ListN.{length, take, replicate, length-append}
 use lib.Seq.{take-append-seam}
-use Rattle.totlog.proofs.Scripts.{Accepted, accepted-reads}
 use Rattle.number.specs.Number.{encode}
 use Rattle.pb.specs.Sum.{variable, neg}
 use Rattle.memo.proofs.Lists.{flatMap-append}
@@ -20,14 +19,13 @@ use Rattle.cert.specs.Requests.{clauseTokens}
 use Rattle.cert.specs.State.{State, start, stepIn, define, write, hold, requests, Head}
 use Rattle.cert.proofs.Apart.{sized-ok}
 use Rattle.cert.proofs.Serving.{serve-in}
-use Rattle.totlog.specs.Player.{firstNo, ask, sideFits, questions, lastQuestions, verdict, make, storedSteps, delete, act, accepted, refused, play}
-use Rattle.totlog.specs.Player.{plays, Outcome, outcome, playScript, mostBytes, played}
+use Rattle.totlog.specs.Player.{firstNo, ask, sideFits, questions, lastQuestions, verdict, make, storedSteps, delete, act, accepted, refused, play, plays, Outcome, outcome, playScript, mostBytes, played}
 use Rattle.totlog.specs.Script.{Command, Commands, script, readScript}
-use Rattle.totlog.proofs.Refusal.{Passed, plays-done, plays-accepted, plays-refused, outcome-number}
-use Rattle.totlog.proofs.Refusal.{script-true, played-true, start-empty}
-use Rattle.totlog.proofs.Sound.{Sound, sound-start, sound-act, request-fits, requests-asked}
-use Rattle.totlog.proofs.Runs.{AllPassed, all-done, all-more}
 use Rattle.totlog.proofs.Counts.{all-keep}
+use Rattle.totlog.proofs.Refusal.{Passed, plays-done, plays-accepted, plays-refused, outcome-number, script-true, played-true, start-empty}
+use Rattle.totlog.proofs.Runs.{AllPassed, all-done, all-more}
+use Rattle.totlog.proofs.Scripts.{Accepted, accepted-reads}
+use Rattle.totlog.proofs.Sound.{Sound, sound-start, sound-act, request-fits, requests-asked}
 
 -- ---- the value of a request
 

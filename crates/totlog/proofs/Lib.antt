@@ -13,5 +13,6 @@ pub mod Different
 pub mod Defines
 pub mod ClauseSteps
 pub mod Matching
+pub mod Numbers
 pub mod Lengths
 pub mod Answers

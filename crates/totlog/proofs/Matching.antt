@@ -1,10 +1,9 @@
 -- Demand 3 over the records of two accepted scripts, and the set of clauses that each writes.
-use Prim.Native.Nat.{ℕ, _+_}
 use mathlib.Core.Path.{_≡_, refl, sym, _∙_, ap, subst}
 use mathlib.Core.List.{List, [], flatMap, List·Memᴰ, List·Nodup, Perm}
+use Prim.Native.Nat.{ℕ, _+_}
 use native.Mathlib.Omega.{arith}
 use lib.ListN.{length}
-use Rattle.totlog.specs.Called.{Closure, Called, KeyCalled, table, asked, build, makes}
 use Rattle.memo.specs.Closure.{Same}
 use Rattle.memo.proofs.Grow.{empty, made, Run, run-written, Matched, runs-match}
 use Rattle.memo.proofs.Lists.{flatMap-perm, length-perm}
@@ -18,6 +17,7 @@ use Rattle.cert.specs.State.{start, keys, State, Head}
 use Rattle.cert.proofs.Apart.{sized-ok, Right, right-needs, numbered-apart, group-once, group-apart}
 use Rattle.cert.proofs.Rules.{counters, counters-grow}
 use Rattle.cert.proofs.Serving.{view}
+use Rattle.totlog.specs.Called.{Closure, Called, KeyCalled, table, asked, build, makes}
 use Rattle.totlog.specs.Script.{Command}
 use Rattle.totlog.proofs.Counts.{all-counted}
 use Rattle.totlog.proofs.Runs.{AllPassed, Ran, all-ran, build-makes}

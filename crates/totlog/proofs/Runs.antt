@@ -1,13 +1,12 @@
 -- An accepted script is a run, as crate `memo` has it, over its table: the leaf and join commands make the nodes, the requests want theirs.
-use Prim.Native.Nat.{ℕ, zero, suc, _+_}
 use mathlib.Core.Path.{_≡_, refl, sym, _∙_, ap, subst}
 use mathlib.Core.Bool.{Bool, true, false}
 use mathlib.Core.Logic.{⊎-elim}
 use mathlib.Core.List.{List, [], _∷_, _++_, append-nil, List·Memᴰ, List·Memᴰ·not-nil, List·Memᴰ·append-cases}
+use Prim.Native.Nat.{ℕ, zero, suc, _+_}
 use native.Mathlib.Omega.{arith}
 use lib.ListN.{length}
 use lib.Seq.{append-snoc}
-use Rattle.totlog.specs.Called.{makes, asked, build}
 use Rattle.memo.proofs.Grow.{Cmd, Run, made, wanted, run-make, want, run-want, run-done}
 use Rattle.memo.proofs.Memo.{Log}
 use Rattle.record.specs.Record.{clauses, deletion}
@@ -19,6 +18,7 @@ use Rattle.cert.proofs.Apart.{Right, sized-ok}
 use Rattle.cert.proofs.Rules.{counters}
 use Rattle.cert.proofs.Serving.{view, clauses-append, serve-step}
 use Rattle.cert.proofs.Tables.{right-more}
+use Rattle.totlog.specs.Called.{makes, asked, build}
 use Rattle.totlog.specs.Player.{plays, outcome, play, Result, refused, accepted, make, delete, storedSteps, firstNo, questions, act}
 use Rattle.totlog.specs.Script.{Command}
 use Rattle.totlog.proofs.Refusal.{Passed, plays-done, outcome-number, plays-ended, play-refused, plays-refused, plays-accepted, play-passed}

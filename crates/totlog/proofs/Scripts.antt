@@ -8,8 +8,8 @@ use borrow.Author.Tests.{leb-true}
 use lib.Dec.{leb}
 use lib.ListN.{length}
 use Rattle.cert.specs.State.{State, start, Head}
-use Rattle.totlog.specs.Script.{Commands, Script, script, headless, readScript}
 use Rattle.totlog.specs.Player.{outcome, plays, refusedAtHead, mostBytes, headFits, playScript, played}
+use Rattle.totlog.specs.Script.{Commands, Script, script, headless, readScript}
 use Rattle.totlog.proofs.Refusal.{and-true, script-true, script-false, script-headless, played-true, played-false}
 use Rattle.totlog.proofs.Runs.{AllPassed, plays-finished}
 

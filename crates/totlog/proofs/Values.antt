@@ -1,10 +1,10 @@
 -- The numbers of an accepted script's log fit in the groups of a number, so that the log reads back as its records.
-use Prim.Native.Nat.{ℕ, zero, suc, _+_, _-_, _≤_, _<_, _^_}
 use mathlib.Core.Path.{_≡_, refl, sym, ap, subst}
 use mathlib.Core.Logic.{⊎-elim, dite}
 use mathlib.Core.List.{List, [], _∷_, _++_, map, flatMap, List·Memᴰ, List·Memᴰ·head, List·Memᴰ·tail, List·Memᴰ·not-nil, List·Memᴰ·cases-cons}
-use native.Mathlib.Omega.{arith}
+use Prim.Native.Nat.{ℕ, zero, suc, _+_, _-_, _≤_, _<_, _^_}
 use native.Mathlib.Decide.{decLt}
+use native.Mathlib.Omega.{arith}
 use lib.ListN.{length, length-append}
 use Rattle.number.specs.Number.{groups, encode}
 use Rattle.number.proofs.Laws.{encode-some}
