@@ -24,9 +24,8 @@ pub data Key : Type 0 where
   real : ℕ → ℕ → Key
   window-zero window : ℕ → ℕ → ℕ → Key
 
--- A definition in one direction (rustsat's SemDefinition): nothing to add, a literal axiom, one of the steps of a key, or none of that direction
--- (question 13).
--- For a real definition the steps count from 0. For a window 0 is the sum of value 0, and the if and the only-if of its i-th value are 2 i - 1 and 2
+-- A definition in one direction (rustsat's SemDefinition): nothing to add, a literal axiom, one of the steps of a key, or none of that direction (question
+-- 13). For a real definition the steps count from 0. For a window 0 is the sum of value 0, and the if and the only-if of its i-th value are 2 i - 1 and 2
 -- i.
 pub data Definition : Type 0 where
   nothing : Definition

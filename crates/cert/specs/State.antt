@@ -85,8 +85,7 @@ hold x s = record {
   next-variable = s .next-variable;
   next-step = s .next-step;
   held = s .held ++ (x ∷ []);
-  stored =
-      s .stored;
+  stored = s .stored;
   log = s .log;
 }
 

@@ -47,9 +47,8 @@ Demand1 = (bs : List ℕ) (capacity : ℕ) → Ends bs capacity × Padded capaci
 
 -- ---- demand 2
 -- "For every script that passes document 01's questions, the log equals what the Rust records for the same commands; its clauses are those of the
--- totalizer of Bailleux and Boufkhad, and each derivation, worked out by the cutting-planes rules, comes to exactly the clause or window definition
--- it
--- is written for." (That the log equals what the Rust records is compared by running both.)
+-- totalizer of Bailleux and Boufkhad, and each derivation, worked out by the cutting-planes rules, comes to exactly the clause or window definition it is
+-- written for." (That the log equals what the Rust records is compared by running both.)
 
 -- The records of an accepted script: `served` are its requests and all they need below, `stored` the definitions that their clauses look up, each
 -- once.
@@ -73,14 +72,11 @@ Demand2 =
     → (rs : List Record) × Holds (played bs capacity) rs × Proved h (cs .list) rs
 
 -- ---- demand 3
--- "For every two accepted scripts, lists of leaf, join, request and close commands, with one head and the same leaf and join commands in the same
--- order,
--- whose requests name the same set of node, value and direction (both counts as the two): whatever the order and place of the requests, and however
--- often one is repeated, both logs hold the same set of clauses, each written once, and the same sums defined, each as often; both answers give the
--- same
--- steps, clauses and nodes, and steps = sums defined + clauses. That set is exactly demand 2's for those requests and all they need below, and the
--- sums
--- are those written for its clauses' lookups, as document 01 lists both."
+-- "For every two accepted scripts, lists of leaf, join, request and close commands, with one head and the same leaf and join commands in the same order,
+-- whose requests name the same set of node, value and direction (both counts as the two): whatever the order and place of the requests, and however often
+-- one is repeated, both logs hold the same set of clauses, each written once, and the same sums defined, each as often; both answers give the same steps,
+-- clauses and nodes, and steps = sums defined + clauses. That set is exactly demand 2's for those requests and all they need below, and the sums are those
+-- written for its clauses' lookups, as document 01 lists both."
 
 pub record Alike (bs ds : List ℕ) (c d : ℕ) (h : Head) (cs es : Commands) : Type 0 where
   pub one-head : (readScript bs ≡ script h cs) × (readScript ds ≡ script h es)

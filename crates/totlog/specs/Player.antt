@@ -28,8 +28,10 @@ firstNo (ask n false ∷ qs) = n
 -- offset below the length, limit at most the length less offset, and not offset 0 with limit equal to the length
 unfoldable pub sideFits : List Node → Side → Bool
 unfolding at len
-sideFits t s = ltb (s .offset) (len (at t (s .node))) && leb (s .limit) (len (at t (s .node)) - s .offset) && notb
-    (eqb (s .offset) 0 && eqb (s .limit) (len (at t (s .node))))
+sideFits t s =
+    ltb (s .offset) (len (at t (s .node)))
+    && leb (s .limit) (len (at t (s .node)) - s .offset)
+    && notb (eqb (s .offset) 0 && eqb (s .limit) (len (at t (s .node))))
 
 -- Questions 6 to 12.
 unfoldable pub questions : Head → List Node → Command → List Question
@@ -63,8 +65,7 @@ make a n s = record {
   next-variable = s .next-variable + n;
   next-step = s .next-step;
   held = s .held;
-  stored =
-      s .stored;
+  stored = s .stored;
   log = s .log;
 }
 
@@ -81,8 +82,7 @@ delete s = record {
   next-step = s .next-step;
   held = s .held;
   stored = s .stored;
-  log =
-      s .log ++ (deletion (storedSteps (s .nodes) (s .stored)) ∷ []);
+  log = s .log ++ (deletion (storedSteps (s .nodes) (s .stored)) ∷ []);
 }
 
 -- What a command does that passes questions 6 to 12. A leaf literal seen before makes no new node; a join reserves all its outputs.
