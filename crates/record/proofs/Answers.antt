@@ -1,11 +1,13 @@
 -- The records of document 01's whole case, and a deletion, as bytes and read back.
 use mathlib.Core.Path.{_≡_, refl}
-use mathlib.Core.List.{List, [], _∷_}
+use mathlib.Core.List.{List, [], _∷_, flatMap}
 use mathlib.Core.Option.{some}
 use Prim.Native.Nat.{ℕ}
+use native.Mathlib.Omega.{arith}
 use Rattle.pb.specs.Rules.{step, literal, add, divide, saturate}
 use Rattle.pb.specs.Sum.{_·_}
-use Rattle.record.specs.Record.{Record, sum, derivation, clause, deletion, bytes, decodeLog}
+use Rattle.record.specs.Record.{Record, sum, derivation, clause, deletion, numbers, bytes, decodeLog}
+use Rattle.record.proofs.Decode.{Small, decode-bytes}
 
 unfoldable pub records : List Record
 records =
@@ -32,3 +34,8 @@ writes = refl
 pub reads : decodeLog written ≡ some records
 unfolding records written decodeLog
 reads = refl
+
+-- The hypothesis of `decode-bytes`, that every number fits, can be met.
+pub met-decode : decodeLog (bytes (clause 300 (3 ∷ []) ∷ [])) ≡ some (clause 300 (3 ∷ []) ∷ [])
+unfolding numbers flatMap Small
+met-decode = decode-bytes (clause 300 (3 ∷ []) ∷ []) (omega arith, (omega arith, (omega arith, (omega arith, tt))))

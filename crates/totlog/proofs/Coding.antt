@@ -4,7 +4,7 @@ use mathlib.Core.Bool.{Bool, true, false}
 use mathlib.Core.List.{List, [], _∷_, _++_, flatMap, append-assoc, append-nil}
 use Prim.Native.Nat.{ℕ, zero, suc, _+_, _^_, _≤_, _<_}
 use native.Mathlib.Omega.{arith}
-use lib.ListN.{length, length-append}
+use lib.ListN.{length, getD, length-append}
 use lib.Seq.{getD-append-add}
 use Rattle.number.specs.Number.{groups, Bytes, encode, Front, number, bad, read}
 use Rattle.number.proofs.Laws.{encode-some, read-encode, read-number}
@@ -248,3 +248,37 @@ script-written bs h cs w e z =
     let c = commands-written (length (r .after-two)) false (r .after-two) (omega arith) u (rw (r .rest) z) in
     let d : r .after-two ≡ flatMap encode (flatMap commandNumbers (cs .list)) = rw (r .rest) at c in
     a .0 ∙ ap (λ (y : List ℕ). encode (h .variable) ++ y) (b .0 ∙ ap (λ (y : List ℕ). encode (h .step) ++ y) d)
+
+-- ---- a script that meets the hypotheses: a leaf and a close
+
+unfoldable pub leaf-closed : List Command
+leaf-closed = leaf 300 ∷ close ∷ []
+
+unfoldable pub leaf-bytes : List ℕ
+leaf-bytes = 0x80 ∷ 2 ∷ 1 ∷ 1 ∷ 0xac ∷ 2 ∷ 4 ∷ []
+
+pub met-back : readScript (scriptBytes (record { variable = 256; step = 1 }) leaf-closed)
+    ≡ script (record { variable = 256; step = 1 }) (record { list = leaf-closed; ending = 0 })
+unfolding leaf-closed commandNumbers flatMap Small CloseLast closes
+met-back =
+    script-back (record { variable = 256; step = 1 }) leaf-closed (omega arith) (omega arith)
+    (omega arith, (omega arith, (omega arith, tt))) (refl, tt)
+
+leaf-bytes-are : Bytes leaf-bytes
+unfolding Bytes leaf-bytes
+leaf-bytes-are zero = omega arith
+leaf-bytes-are (suc zero) = omega arith
+leaf-bytes-are (suc (suc zero)) = omega arith
+leaf-bytes-are (suc (suc (suc zero))) = omega arith
+leaf-bytes-are (suc (suc (suc (suc zero)))) = omega arith
+leaf-bytes-are (suc (suc (suc (suc (suc zero))))) = omega arith
+leaf-bytes-are (suc (suc (suc (suc (suc (suc i)))))) = last i
+  where
+    last : (i : ℕ) → getD {A = ℕ} (4 ∷ []) i 0 < 256
+    last zero = omega arith
+    last (suc i) = omega arith
+
+pub met-written : leaf-bytes ≡ scriptBytes (record { variable = 256; step = 1 }) leaf-closed
+unfolding leaf-bytes leaf-closed readScript
+met-written =
+    script-written leaf-bytes (record { variable = 256; step = 1 }) (record { list = leaf-closed; ending = 0 }) leaf-bytes-are refl refl
