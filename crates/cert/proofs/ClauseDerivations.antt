@@ -13,7 +13,7 @@ use Rattle.pb.proofs.Normal.{Same, Off, Apart, Clean, Apart-clean, same-room, w
 use Rattle.pb.proofs.Rules.{same-trans, same-add, literal-part, same-refl, Apart-keep, coef-units, weight-units, coef-negs, weight-negs}
 use Rattle.pb.proofs.Terms.{variable-neg}
 use Rattle.totdb.specs.Nodes.{Node, Side, sideLit, sideLen}
-use Rattle.cert.specs.Definitions.{addText}
+use Rattle.cert.specs.Definitions.{addSequence}
 use Rattle.cert.specs.Requests.{negPart, posPart}
 use Rattle.cert.proofs.Derivations.{Gives, Room, gives-add, gives-step, clean-room, evaluate-gives, gives-saturate}
 use Rattle.cert.proofs.Totalizer.{real-if, real-only-if, if-clause, ats, levels, only-if-clause}
@@ -30,8 +30,8 @@ record Like (sums : ℕ → Option Sum) (ks : List Token) (t : Sum) : Type 0 whe
   same : Same value t
 
 like-more : {sums : ℕ → Option Sum} {ks js : List Token} {s t : Sum} (g : Like sums ks s) → Room (g .value) → Stands sums js t
-    → Like sums (addText ks js) (addition s t)
-unfolding addText
+    → Like sums (addSequence ks js) (addition s t)
+unfolding addSequence
 like-more {s = s} g r (stands-nothing h) = record { value = g .value; gives = g .gives; same = same-trans (g .same) (h s) }
 like-more g r (stands-given {x = x} h e q) = record { value = addition (g .value) x; gives = gives-add (g .gives) h r q; same = same-add (g .same) e }
 
@@ -63,7 +63,7 @@ module _ (sums : ℕ → Option Sum) (m : ℕ) (left right : List Token) (ls rs 
       → Stands sums right (real-only-if rs q b) → a + b ≡ v
       → (0 < a → variable p ≢ variable o) → (0 < b → variable q ≢ variable o) → (0 < a → 0 < b → variable p ≢ variable q)
       → (0 < a → Off (variable p) (units rs))
-      → evaluate sums (addText (addText (step m ∷ []) left) right ++ (saturate ∷ [])) ≡ some
+      → evaluate sums (addSequence (addSequence (step m ∷ []) left) right ++ (saturate ∷ [])) ≡ some
       (normal (clauseSum (literal-part a (neg p) (literal-part b (neg q) (o ∷ [])))))
   if-evaluates e clean f g s i j k off =
       let x = like-more (record { value = real-if (ls ++ rs) o v; gives = gives-step m (real-if (ls ++ rs) o v) e; same = same-refl _ })
@@ -90,7 +90,7 @@ module _ (sums : ℕ → Option Sum) (m : ℕ) (left right : List Token) (ls rs 
       → Stands sums left (real-if ls p (a + 1)) → Stands sums right (real-if rs q (b + 1)) → a + b + 1 ≡ v
       → (a < length ls → variable p ≢ variable o) → (b < length rs → variable q ≢ variable o)
       → (a < length ls → b < length rs → variable p ≢ variable q) → (a < length ls → Off (variable p) (units rs))
-      → evaluate sums (addText (addText (step m ∷ []) left) right ++ (saturate ∷ [])) ≡ some
+      → evaluate sums (addSequence (addSequence (step m ∷ []) left) right ++ (saturate ∷ [])) ≡ some
       (normal (clauseSum (literal-part (length ls - a) p (literal-part (length rs - b) q (neg o ∷ [])))))
   only-if-evaluates e clean f g s i j k off =
       let x = like-more (record { value = real-only-if (ls ++ rs) o v; gives = gives-step m (real-only-if (ls ++ rs) o v) e; same = same-refl _ })

@@ -10,7 +10,7 @@ use Rattle.memo.proofs.Lists.{map-twice, flatMap-append}
 use Rattle.totdb.specs.Nodes.{Side, Node, leaf, join, at, leaves, len, output, range, sideLen, sideLit}
 use Rattle.cert.specs.Definitions.{Direction, if, only-if}
 use Rattle.cert.specs.Requests.{request, splits, Clause, negPart, posPart, ifClause, onlyIfClause, clausesAt, clausesOf, literalsOf}
-use Rattle.cert.specs.Totalizer.{Extended, never, lit, place, complement, simplify, C1, C2, schema, ofSide, ofNode, totalizerAt, totalizer}
+use Rattle.cert.specs.Totalizer.{Extended, never, lit, literalAt, complement, simplify, C1, C2, schema, ofSide, ofNode, totalizerAt, totalizer}
 use Rattle.cert.proofs.Apart.{splits-mem}
 use Rattle.cert.proofs.SchemaCases.{three}
 use Rattle.cert.proofs.WindowDerivations.{range-append}
@@ -93,7 +93,7 @@ module _ (c : ℕ → ℕ → ℕ → List Extended) (p q σ : ℕ) where
 
 module _ (t : List Node) (s : Side) (xs : List Extended) (c : List ℕ) (rest : simplify xs ≡ c ∷ []) where
   neg-part : (i : ℕ) → i ≤ sideLen t s → simplify (complement (ofSide t s i) ∷ xs) ≡ (negPart t s i ++ c) ∷ []
-  unfolding ofSide place complement simplify negPart
+  unfolding ofSide literalAt complement simplify negPart
   neg-part zero h = rest
   neg-part (suc i) h = by (decLe (suc i) (sideLen t s))
     where
@@ -103,7 +103,7 @@ module _ (t : List Node) (s : Side) (xs : List Extended) (c : List ℕ) (rest : 
       by (no k) = absurd (k h)
 
   pos-part : (i : ℕ) → simplify (ofSide t s (suc i) ∷ xs) ≡ (posPart t s (suc i) ++ c) ∷ []
-  unfolding ofSide place simplify posPart
+  unfolding ofSide literalAt simplify posPart
   pos-part i = by (decLe (suc i) (sideLen t s))
     where
       by : (d : Dec (suc i ≤ sideLen t s))
@@ -113,7 +113,7 @@ module _ (t : List Node) (s : Side) (xs : List Extended) (c : List ℕ) (rest : 
       by (no k) = rest
 
 output-lit : (x : Node) (v : ℕ) → 1 ≤ v → v ≤ len x → ofNode x v ≡ lit (output x v)
-unfolding ofNode place
+unfolding ofNode literalAt
 output-lit x zero h k = absurd (omega arith)
 output-lit x (suc v) h k = by (decLe (suc v) (len x))
   where
@@ -167,8 +167,8 @@ met-schema = clauses-schema three 4 2 only-if (omega arith) (omega arith)
 
 -- ---- the clauses left out by the values 1 to m, of r_0 and r_(m+1), are true
 
-place-above : (x : ℕ → ℕ) (n : ℕ) → place x n (suc n) ≡ never
-unfolding place
+place-above : (x : ℕ → ℕ) (n : ℕ) → literalAt x n (suc n) ≡ never
+unfolding literalAt
 place-above x n = by (decLe (suc n) n)
   where
     by : (d : Dec (suc n ≤ n)) → dite d (λ _. lit (x (suc n))) (λ _. never) ≡ never
@@ -176,10 +176,10 @@ place-above x n = by (decLe (suc n) n)
     by (no _) = refl
 
 module _ (a b r : ℕ → ℕ) (p q m : ℕ) where
-  pub C1-first : simplify (C1 (place a p) (place b q) (place r m) 0 0 0) ≡ []
-  unfolding C1 place complement simplify
+  pub C1-first : simplify (C1 (literalAt a p) (literalAt b q) (literalAt r m) 0 0 0) ≡ []
+  unfolding C1 literalAt complement simplify
   C1-first = refl
 
-  pub C2-last : simplify (C2 (place a p) (place b q) (place r m) p q m) ≡ []
+  pub C2-last : simplify (C2 (literalAt a p) (literalAt b q) (literalAt r m) p q m) ≡ []
   unfolding C2 complement simplify
   C2-last = rw (place-above a p, place-above b q, place-above r m)

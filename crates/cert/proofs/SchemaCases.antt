@@ -7,7 +7,7 @@ use Rattle.pb.specs.Sum.{neg}
 use Rattle.totdb.specs.Nodes.{Side, Node, leaf, join, at, leaves, len, output, range, limited, sideLen, sideLit}
 use Rattle.cert.specs.Definitions.{Direction, if, only-if}
 use Rattle.cert.specs.Requests.{request, splits, negPart, posPart, ifClause, onlyIfClause, clausesAt, clausesOf, literalsOf}
-use Rattle.cert.specs.Totalizer.{place, complement, simplify, C1, C2, schema, ofSide, ofNode, totalizerAt, totalizer}
+use Rattle.cert.specs.Totalizer.{literalAt, complement, simplify, C1, C2, schema, ofSide, ofNode, totalizerAt, totalizer}
 
 side : ℕ → ℕ → Side
 side n f = record { node = n; offset = f; limit = 0 }
@@ -59,6 +59,6 @@ cases =
 pub worked : map (λ (c : Case). c .got) cases ≡ map (λ (c : Case). c .want) cases
 unfolding
     cases two three at leaves len output limited range sideLen sideLit neg flatMap decLe ℕ-discrete
-    totalizer totalizerAt schema simplify C1 C2 complement ofSide ofNode place literalsOf clausesOf clausesAt ifClause onlyIfClause splits negPart
+    totalizer totalizerAt schema simplify C1 C2 complement ofSide ofNode literalAt literalsOf clausesOf clausesAt ifClause onlyIfClause splits negPart
     posPart
 worked = refl

@@ -9,10 +9,10 @@ use Rattle.pb.specs.Rules.{Token, step, literal, add, divide, saturate}
 use Rattle.pb.specs.Sum.{neg, _·_, Sum, _≥_, units, keep, normal}
 use Rattle.record.specs.Record.{Record, sum, derivation, clause, deletion}
 use Rattle.record.specs.Steps.{Defined, written, derived}
-use Rattle.totdb.specs.Nodes.{Side, Node, at, leaves, len, output, range, sideLen, sideLit}
+use Rattle.totdb.specs.Nodes.{Side, Node, at, leaves, len, output, range, sideLen, sideLit, plainOr}
 
--- The direction of a definition or a request (rustsat's Semantics), for an output of value v. `if`: where v of the leaf list are true, the output is
--- true. `only-if`: the output is true only where so many are.
+-- The direction of a definition or a request (rustsat's Semantics), for an output of value v. `if`: where at least v of the leaf list are true, the
+-- output is true. `only-if`: the output is true only where at least v are.
 pub data Direction : Type 0 where
   if only-if : Direction
 
@@ -24,9 +24,8 @@ pub data Key : Type 0 where
   real : ℕ → ℕ → Key
   window-zero window : ℕ → ℕ → ℕ → Key
 
--- A definition in one direction (rustsat's SemDefinition): nothing to add, a literal axiom, one of the steps of a key, or none of that direction (question
--- 13). For a real definition the steps count from 0. For a window 0 is the sum of value 0, and the if and the only-if of its i-th value are 2 i - 1 and 2
--- i.
+-- A definition in one direction (rustsat's SemDefinition): nothing to add, a literal axiom, one of the steps of a key, or none of that direction (question 13).
+-- For a real definition the steps count from 0. For a window 0 is the sum of value 0, and the if and the only-if of its i-th value are 2i - 1 and 2i.
 pub data Definition : Type 0 where
   nothing : Definition
   axiom-of : ℕ → Definition
@@ -50,7 +49,7 @@ realDef m n zero only-if = stored (real n 0) 0
 realDef m n (suc v) if = stored (real n (suc v)) 0
 realDef m n (suc v) only-if = dite (decLe (suc v) m) (λ _. stored (real n (suc v)) 1) (λ _. lacking)
 
--- The i-th value of a window of m outputs. A value at or below the offset is its value 0.
+-- Value f + i of a window of m outputs. Value f, i = 0, is its value 0; no lookup is lower.
 unfoldable pub windowDef : ℕ → ℕ → ℕ → ℕ → Direction → Definition
 unfolding decLe
 windowDef n f m zero if = lacking
@@ -60,10 +59,8 @@ windowDef n f m (suc i) only-if = dite (decLe (suc i) m) (λ _. stored (window n
 
 -- Plain, or a window: node n, offset and limit, m outputs.
 unfoldable pub longDef : ℕ → ℕ → ℕ → ℕ → ℕ → Direction → Definition
-unfolding realDef windowDef
-longDef m n zero zero i d = realDef m n i d
-longDef m n zero (suc k) i d = windowDef n zero m i d
-longDef m n (suc f) k i d = windowDef n (suc f) m i d
+unfolding plainOr realDef windowDef
+longDef m n f k i d = plainOr f k (realDef m n i d) (windowDef n f m i d)
 
 -- The definition of a side's value i, from 0 to one above its length.
 unfoldable pub sideDef : List Node → Side → ℕ → Direction → Definition
@@ -101,17 +98,17 @@ realRecords x (suc v) = dite (decLt (len x) (suc v)) (λ _. atLeastZero (map neg
 
 -- ---- windows: node x of number n, offset f, m outputs. `at-step` gives the step of each place of a key.
 
--- One text added to another: left operand, right operand, operation. Adding the empty text writes nothing.
-unfoldable pub addText : List Token → List Token → List Token
-addText ks [] = ks
-addText ks (j ∷ js) = ks ++ ((j ∷ js) ++ (add ∷ []))
+-- A sequence added to one that is not empty: left operand, right operand, operation. Adding the empty sequence writes nothing.
+unfoldable pub addSequence : List Token → List Token → List Token
+addSequence ks [] = ks
+addSequence ks (j ∷ js) = ks ++ ((j ∷ js) ++ (add ∷ []))
 
--- The texts added up.
+-- The sequences added up.
 unfoldable pub total : List Token → List (List Token) → List Token
-unfolding addText
+unfolding addSequence
 total ks [] = ks
 total [] (js ∷ jss) = total js jss
-total (k ∷ ks) (js ∷ jss) = total (addText (k ∷ ks) js) jss
+total (k ∷ ks) (js ∷ jss) = total (addSequence (k ∷ ks) js) jss
 
 -- if of v, at s: s < v adds ¬o(s); s = v nothing; s > v (real if of v plus real only-if of s), divided by s - v + 1, saturated
 unfoldable pub ifPart : (Key → ℕ → ℕ) → ℕ → Node → ℕ → ℕ → List Token
@@ -186,10 +183,10 @@ asWritten (clause s ls) = []
 asWritten (deletion ss) = []
 
 unfoldable pub definedBy : List Node → Key → List Defined
-unfolding at realRecords asWritten windowOutputs windowIfSum windowOnlyIfSum flatMap units neg
+unfolding at realRecords asWritten atLeastZero windowOutputs windowIfSum windowOnlyIfSum flatMap neg
 definedBy t (real n v) = flatMap asWritten (realRecords (at t n) v)
-definedBy t (window-zero n f m) = written 0 (units (windowOutputs (at t n) f m)) 0 ∷ []
+definedBy t (window-zero n f m) = asWritten (atLeastZero (windowOutputs (at t n) f m))
 definedBy t (window n f m) =
     flatMap {B = Defined} (λ (v : ℕ). derived (some (windowIfSum (at t n) f m v)) ∷ derived (some (windowOnlyIfSum (at t n) f m v)) ∷ [])
     (range (f + 1) m)
-    ++ (written 0 (units (map neg (windowOutputs (at t n) f m))) 0 ∷ [])
+    ++ asWritten (atLeastZero (map neg (windowOutputs (at t n) f m)))

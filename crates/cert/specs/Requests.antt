@@ -7,7 +7,7 @@ use native.Mathlib.Decide.{decLe}
 use Rattle.pb.specs.Rules.{Token, step, literal, saturate}
 use Rattle.pb.specs.Sum.{neg}
 use Rattle.totdb.specs.Nodes.{Side, Node, leaf, join, at, len, output, range, sideLen, sideLit}
-use Rattle.cert.specs.Definitions.{Direction, if, only-if, Key, Definition, nothing, axiom-of, stored, lacking, realDef, sideDef, addText}
+use Rattle.cert.specs.Definitions.{Direction, if, only-if, Key, Definition, nothing, axiom-of, stored, lacking, realDef, sideDef, addSequence}
 
 -- A node, a value of it and a direction. It is held once its clauses are written.
 pub data Request : Type 0 where
@@ -146,6 +146,6 @@ defTokens at-step lacking = []
 
 -- This definition, plus left, plus right, saturated.
 unfoldable pub clauseTokens : (Key → ℕ → ℕ) → Clause → List Token
-unfolding defTokens addText
+unfolding defTokens addSequence
 clauseTokens at-step c =
-    addText (addText (defTokens at-step (c .this)) (defTokens at-step (c .left))) (defTokens at-step (c .right)) ++ (saturate ∷ [])
+    addSequence (addSequence (defTokens at-step (c .this)) (defTokens at-step (c .left))) (defTokens at-step (c .right)) ++ (saturate ∷ [])

@@ -18,10 +18,10 @@ pub data Extended : Type 0 where
   lit : ℕ → Extended
 
 -- x_i, where x_1 .. x_n are literals: true at 0, false above n.
-unfoldable pub place : (ℕ → ℕ) → ℕ → ℕ → Extended
+unfoldable pub literalAt : (ℕ → ℕ) → ℕ → ℕ → Extended
 unfolding decLe
-place x n zero = always
-place x n (suc i) = dite (decLe (suc i) n) (λ _. lit (x (suc i))) (λ _. never)
+literalAt x n zero = always
+literalAt x n (suc i) = dite (decLe (suc i) n) (λ _. lit (x (suc i))) (λ _. never)
 
 unfoldable pub complement : Extended → Extended
 unfolding neg
@@ -55,12 +55,12 @@ schema c p q σ =
 
 -- The literals of a side, and the outputs of a node.
 unfoldable pub ofSide : List Node → Side → ℕ → Extended
-unfolding place sideLit sideLen
-ofSide t s = place (sideLit t s) (sideLen t s)
+unfolding literalAt sideLit sideLen
+ofSide t s = literalAt (sideLit t s) (sideLen t s)
 
 unfoldable pub ofNode : Node → ℕ → Extended
-unfolding place output len
-ofNode x = place (output x) (len x)
+unfolding literalAt output len
+ofNode x = literalAt (output x) (len x)
 
 -- By value v: all C1 whose output r_σ, or all C2 whose output r_(σ+1), is that of v. A leaf has none.
 unfoldable pub totalizerAt : List Node → Node → Direction → ℕ → List (List ℕ)

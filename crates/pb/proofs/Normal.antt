@@ -5,7 +5,7 @@ use mathlib.Core.List.{List, [], _∷_}
 use Prim.Native.Nat.{ℕ, zero, suc, _+_, _-_, _*_, min, _≤_, _<_}
 use native.Mathlib.Decide.{ℕ-discrete, decLt}
 use native.Mathlib.Omega.{arith}
-use Rattle.pb.specs.Rules.{each}
+use Rattle.pb.specs.Rules.{mapCoefs}
 use Rattle.pb.specs.Sum.{hit, insert, Term, _·_, variable, variables, coef, kept, net, keep, lost, Sum, normal, _≥_, neg}
 use Rattle.pb.proofs.Terms.{hit-zero, hit-other, insert-nil, insert-cases, Placed, hit-same, coef-nil, coef-cons, polarity, variable-even, variable-odd, kept-nil, kept-cons, coef-keep, net-is, hit-cases, lost-nil, lost-cons, neg-even, neg-odd, normal-is, neg-neg, variable-neg, neg-self}
 
@@ -346,13 +346,13 @@ coef-off l [] h = coef-nil l
 coef-off l ((c · m) ∷ ts) h =
     rw coef-cons (omega (arith, hit-other c {m = m} {l = l} (λ (e : m ≡ l). h .0 (ap variable (sym e))), coef-off l ts (h .1)))
 
-Off-each : (f : ℕ → ℕ) (x : ℕ) (ts : List Term) → Off x ts → Off x (each f ts)
-unfolding each
+Off-each : (f : ℕ → ℕ) (x : ℕ) (ts : List Term) → Off x ts → Off x (mapCoefs f ts)
+unfolding mapCoefs
 Off-each f x [] h = tt
 Off-each f x ((c · m) ∷ ts) h = (h .0, Off-each f x ts (h .1))
 
-pub Apart-each : (f : ℕ → ℕ) (ts : List Term) → Apart ts → Apart (each f ts)
-unfolding each
+pub Apart-each : (f : ℕ → ℕ) (ts : List Term) → Apart ts → Apart (mapCoefs f ts)
+unfolding mapCoefs
 Apart-each f [] h = tt
 Apart-each f ((c · m) ∷ ts) h = (Off-each f (variable m) ts (h .0), Apart-each f ts (h .1))
 
@@ -401,13 +401,13 @@ unfolding Once
 Once-rising k [] h = tt
 Once-rising k ((c · m) ∷ ts) h = (coef-below (suc m) m ts (omega arith) (h .2), Once-rising (suc m) ts (h .2))
 
-coef-each : (f : ℕ → ℕ) → f 0 ≡ 0 → (ts : List Term) → Once ts → (l : ℕ) → coef (each f ts) l ≡ f (coef ts l)
-unfolding each Once
+coef-each : (f : ℕ → ℕ) → f 0 ≡ 0 → (ts : List Term) → Once ts → (l : ℕ) → coef (mapCoefs f ts) l ≡ f (coef ts l)
+unfolding mapCoefs Once
 coef-each f z [] h l = rw coef-nil (sym z)
-coef-each f z ((c · m) ∷ ts) h l = rw (coef-cons (f c) m (each f ts) l, coef-cons c m ts l) (by (hit-cases c m l) (coef-each f z ts (h .1)))
+coef-each f z ((c · m) ∷ ts) h l = rw (coef-cons (f c) m (mapCoefs f ts) l, coef-cons c m ts l) (by (hit-cases c m l) (coef-each f z ts (h .1)))
   where
-    by : ((m ≡ l) × (hit c m l ≡ c)) ⊎ ((m ≢ l) × (hit c m l ≡ 0)) → ((l : ℕ) → coef (each f ts) l ≡ f (coef ts l))
-        → hit (f c) m l + coef (each f ts) l ≡ f (hit c m l + coef ts l)
+    by : ((m ≡ l) × (hit c m l ≡ c)) ⊎ ((m ≢ l) × (hit c m l ≡ 0)) → ((l : ℕ) → coef (mapCoefs f ts) l ≡ f (coef ts l))
+        → hit (f c) m l + coef (mapCoefs f ts) l ≡ f (hit c m l + coef ts l)
     by (inl p) ih =
         let a : coef ts l ≡ 0 = rw (← p .0) (h .0) in
         let b : hit c m l + coef ts l ≡ c = omega (arith, p .1) in
@@ -418,20 +418,20 @@ coef-each f z ((c · m) ∷ ts) h l = rw (coef-cons (f c) m (each f ts) l, coef-
 
 -- Of terms over different variables each may be changed where it stands, without a normal form between.
 pub normal-each : (f : ℕ → ℕ) → f 0 ≡ 0 → (ts : List Term) (b d : ℕ) → Apart ts
-    → normal (each f (normal (ts ≥ b) .terms) ≥ d) ≡ normal (each f ts ≥ d)
+    → normal (mapCoefs f (normal (ts ≥ b) .terms) ≥ d) ≡ normal (mapCoefs f ts ≥ d)
 unfolding Clean
-normal-each f z ts b d h = rw (normal-is (ts ≥ b)) (normal-clean (each f (kept ts (variables ts))) (each f ts) d clean apart same)
+normal-each f z ts b d h = rw (normal-is (ts ≥ b)) (normal-clean (mapCoefs f (kept ts (variables ts))) (mapCoefs f ts) d clean apart same)
   where
-    apart : Clean (each f ts)
-    apart = Apart-clean (each f ts) (Apart-each f ts h)
+    apart : Clean (mapCoefs f ts)
+    apart = Apart-clean (mapCoefs f ts) (Apart-each f ts h)
 
-    same : (l : ℕ) → coef (each f (kept ts (variables ts))) l ≡ coef (each f ts) l
+    same : (l : ℕ) → coef (mapCoefs f (kept ts (variables ts))) l ≡ coef (mapCoefs f ts) l
     same l =
         coef-each f z (kept ts (variables ts)) (Once-rising 0 _ (Rising-normal ts)) l
         ∙ ap f (coef-normal ts l ∙ net-clean ts l (Apart-clean ts h))
         ∙ sym (coef-each f z ts (Once-apart ts h) l)
 
-    clean : Clean (each f (kept ts (variables ts)))
+    clean : Clean (mapCoefs f (kept ts (variables ts)))
     clean l = rw (same l, same (neg l)) (apart l)
 
 pub bound-apart : (ts : List Term) (b : ℕ) → Apart ts → normal (ts ≥ b) .bound ≡ b

@@ -6,7 +6,7 @@ use Prim.Native.Nat.{ℕ, zero, suc, _+_, min, _≤_, _<_}
 use native.Mathlib.Nat.{div-eq-of-lt-le, div-eq-of-lt, le-div-iff-mul-le}
 use native.Mathlib.Omega.{arith}
 use lib.ListN.{length}
-use Rattle.pb.specs.Rules.{addition, division, each, up, saturation}
+use Rattle.pb.specs.Rules.{addition, division, mapCoefs, ceilDiv, saturation}
 use Rattle.pb.specs.Sum.{Term, coef, _·_, Sum, normal, _≥_, keep, variable, units, clauseSum, neg, hit}
 use Rattle.pb.proofs.Normal.{weight, Same, spent, normal-same, same-normal, Apart, bound-apart, normal-each, Off, Apart-each, coef-off}
 use Rattle.pb.proofs.Terms.{coef-nil, coef-cons, hit-neg, hit-cases}
@@ -70,29 +70,29 @@ add-normal s t h g = sym (normal-same (addition s t) (addition (normal s) (norma
 
 pub divide-normal : (d : ℕ) (s t : Sum) → normal s ≡ normal t → division d s ≡ division d t
 unfolding division
-divide-normal d s t e = ap (λ (n : Sum). each (up d) (n .terms) ≥ up d (n .bound)) e
+divide-normal d s t e = ap (λ (n : Sum). mapCoefs (ceilDiv d) (n .terms) ≥ ceilDiv d (n .bound)) e
 
 pub saturate-normal : (s t : Sum) → normal s ≡ normal t → saturation s ≡ saturation t
 unfolding saturation
-saturate-normal s t e = ap (λ (n : Sum). each (λ c. min c (n .bound)) (n .terms) ≥ n .bound) e
+saturate-normal s t e = ap (λ (n : Sum). mapCoefs (λ c. min c (n .bound)) (n .terms) ≥ n .bound) e
 
-pub up-zero : (d : ℕ) → 0 < d → up d 0 ≡ 0
-unfolding up
+pub up-zero : (d : ℕ) → 0 < d → ceilDiv d 0 ≡ 0
+unfolding ceilDiv
 up-zero d h = div-eq-of-lt (omega arith)
 
-pub up-self : (d : ℕ) → 0 < d → up d d ≡ 1
-unfolding up
+pub up-self : (d : ℕ) → 0 < d → ceilDiv d d ≡ 1
+unfolding ceilDiv
 up-self d h = div-eq-of-lt-le d (omega arith) (omega arith)
 
-pub up-pos : (d c : ℕ) → 0 < d → 0 < c → 0 < up d c
-unfolding up
+pub up-pos : (d c : ℕ) → 0 < d → 0 < c → 0 < ceilDiv d c
+unfolding ceilDiv
 up-pos d c h g = le-div-iff-mul-le h .1 (omega arith)
 
-pub divide-apart : (d : ℕ) (ts : List Term) (b : ℕ) → 0 < d → Apart ts → normal (division d (ts ≥ b)) ≡ normal (each (up d) ts ≥ up d b)
+pub divide-apart : (d : ℕ) (ts : List Term) (b : ℕ) → 0 < d → Apart ts → normal (division d (ts ≥ b)) ≡ normal (mapCoefs (ceilDiv d) ts ≥ ceilDiv d b)
 unfolding division
-divide-apart d ts b p h = rw (bound-apart ts b h) (normal-each (up d) (up-zero d p) ts b (up d b) h)
+divide-apart d ts b p h = rw (bound-apart ts b h) (normal-each (ceilDiv d) (up-zero d p) ts b (ceilDiv d b) h)
 
-pub saturate-apart : (ts : List Term) (b : ℕ) → Apart ts → normal (saturation (ts ≥ b)) ≡ normal (each (λ c. min c b) ts ≥ b)
+pub saturate-apart : (ts : List Term) (b : ℕ) → Apart ts → normal (saturation (ts ≥ b)) ≡ normal (mapCoefs (λ c. min c b) ts ≥ b)
 unfolding saturation
 saturate-apart ts b h = rw (bound-apart ts b h) (normal-each (λ c. min c b) (omega arith) ts b b h)
 
@@ -132,18 +132,18 @@ unfolding keep
 Apart-keep zero m ts h g = g
 Apart-keep (suc c) m ts h g = (h (omega arith), g)
 
-literals-each : (f : ℕ → ℕ) (ts : List Term) → literals (each f ts) ≡ literals ts
-unfolding each literals
+literals-each : (f : ℕ → ℕ) (ts : List Term) → literals (mapCoefs f ts) ≡ literals ts
+unfolding mapCoefs literals
 literals-each f [] = refl
 literals-each f ((c · m) ∷ ts) = rw (literals-each f ts)
 
-Positive-each : (f : ℕ → ℕ) → ((c : ℕ) → 0 < c → 0 < f c) → (ts : List Term) → Positive ts → Positive (each f ts)
-unfolding each
+Positive-each : (f : ℕ → ℕ) → ((c : ℕ) → 0 < c → 0 < f c) → (ts : List Term) → Positive ts → Positive (mapCoefs f ts)
+unfolding mapCoefs
 Positive-each f h [] p = tt
 Positive-each f h ((c · m) ∷ ts) p = (h c (p .0), Positive-each f h ts (p .1))
 
-each-one : (ts : List Term) → Positive ts → each (λ c. min c 1) ts ≡ units (literals ts)
-unfolding each units literals
+each-one : (ts : List Term) → Positive ts → mapCoefs (λ c. min c 1) ts ≡ units (literals ts)
+unfolding mapCoefs units literals
 each-one [] p = refl
 each-one ((c · m) ∷ ts) p = let e : min c 1 ≡ 1 = omega arith in rw (e, each-one ts (p .1))
 
@@ -156,9 +156,9 @@ saturate-clause ts h p = saturate-apart ts 1 h ∙ rw (each-one ts p)
 pub divide-clause : (d : ℕ) (ts : List Term) → 0 < d → Apart ts → Positive ts
     → normal (saturation (division d (ts ≥ d))) ≡ normal (clauseSum (literals ts))
 divide-clause d ts z h p =
-    ap normal (saturate-normal (division d (ts ≥ d)) (each (up d) ts ≥ 1) (divide-apart d ts d z h ∙ rw (up-self d z)))
-    ∙ saturate-clause (each (up d) ts) (Apart-each (up d) ts h) (Positive-each (up d) (λ c. up-pos d c z) ts p)
-    ∙ rw (literals-each (up d) ts)
+    ap normal (saturate-normal (division d (ts ≥ d)) (mapCoefs (ceilDiv d) ts ≥ 1) (divide-apart d ts d z h ∙ rw (up-self d z)))
+    ∙ saturate-clause (mapCoefs (ceilDiv d) ts) (Apart-each (ceilDiv d) ts h) (Positive-each (ceilDiv d) (λ c. up-pos d c z) ts p)
+    ∙ rw (literals-each (ceilDiv d) ts)
 
 -- ---- the literals of a list
 

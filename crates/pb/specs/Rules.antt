@@ -14,23 +14,23 @@ literalAxiom l = (1 · l ∷ []) ≥ 0
 unfoldable pub addition : Sum → Sum → Sum
 addition s t = (s .terms ++ t .terms) ≥ s .bound + t .bound
 
-unfoldable pub each : (ℕ → ℕ) → List Term → List Term
-each f [] = []
-each f ((c · m) ∷ ts) = (f c · m) ∷ each f ts
+unfoldable pub mapCoefs : (ℕ → ℕ) → List Term → List Term
+mapCoefs f [] = []
+mapCoefs f ((c · m) ∷ ts) = (f c · m) ∷ mapCoefs f ts
 
 -- c / d, rounded up
-unfoldable pub up : ℕ → ℕ → ℕ
-up d c = (c + (d - 1)) / d
+unfoldable pub ceilDiv : ℕ → ℕ → ℕ
+ceilDiv d c = (c + (d - 1)) / d
 
 -- In the normal form every coefficient and the bound are divided, rounded up.
 unfoldable pub division : ℕ → Sum → Sum
-unfolding normal each up
-division d s = each (up d) (normal s .terms) ≥ up d (normal s .bound)
+unfolding normal mapCoefs ceilDiv
+division d s = mapCoefs (ceilDiv d) (normal s .terms) ≥ ceilDiv d (normal s .bound)
 
 -- In the normal form coefficients are cut to the bound.
 unfoldable pub saturation : Sum → Sum
-unfolding normal each
-saturation s = each (λ c. min c (normal s .bound)) (normal s .terms) ≥ normal s .bound
+unfolding normal mapCoefs
+saturation s = mapCoefs (λ c. min c (normal s .bound)) (normal s .terms) ≥ normal s .bound
 
 -- ---- derivations
 

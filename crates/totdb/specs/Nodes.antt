@@ -61,11 +61,11 @@ unfoldable pub sideOutputs : List Node → Side → List ℕ
 unfolding sideLit sideLen range
 sideOutputs t s = map (sideLit t s) (range 1 (sideLen t s))
 
--- The first list for a plain side, the second for a window: offset and limit.
-unfoldable pub plainOr : ℕ → ℕ → List ℕ → List ℕ → List ℕ
-plainOr zero zero ls os = ls
-plainOr zero (suc k) ls os = os
-plainOr (suc f) k ls os = os
+-- By offset and limit: the first where the side is plain, the second where it is a window.
+unfoldable pub plainOr : {A : Type 0} → ℕ → ℕ → A → A → A
+plainOr zero zero a b = a
+plainOr zero (suc k) a b = b
+plainOr (suc f) k a b = b
 
 -- A plain side gives its node's leaf list, a window its own outputs.
 unfoldable pub sideLeaves : List Node → Side → List ℕ

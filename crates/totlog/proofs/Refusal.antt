@@ -12,7 +12,7 @@ use lib.Seq.{drop-append-seam}
 use Rattle.number.specs.Number.{number, read, Front, bad}
 use Rattle.record.specs.Record.{bytes}
 use Rattle.cert.specs.State.{State, start, Head}
-use Rattle.totlog.specs.Player.{verdict, accepted, refused, firstNo, ask, questions, act, lacking, lastQuestions, play, Result, plays, outcome, ended, Outcome, refusedAtHead, headFits, playScript, mostBytes, played, Padded, unrefused}
+use Rattle.totlog.specs.Player.{verdict, accepted, refused, firstNo, ask, questions, act, anyLacks, lastQuestions, play, Result, plays, outcome, ended, Outcome, refusedAtHead, headFits, playScript, mostBytes, played, Padded, unrefused}
 use Rattle.totlog.specs.Script.{Command, Commands, script, headless, readScript, Script, readCommands}
 use Rattle.totlog.proofs.Reading.{read-front, commands-cut}
 
@@ -38,16 +38,16 @@ two-yes n m false b p q e = absurd (omega arith)
 pub record Passed (h : Head) (capacity : ℕ) (c : Command) (s u : State) : Type 0 where
   pub asked : firstNo (questions h (s .nodes) c) ≡ 0
   pub after : act c s ≡ u
-  pub offered : lacking (u .nodes) (drop (length (s .held)) (u .held)) ≡ false
+  pub offered : anyLacks (u .nodes) (drop (length (s .held)) (u .held)) ≡ false
   pub fits : length (bytes (u .log)) ≤ capacity
 
 last-passed : (capacity : ℕ) (s u : State) → firstNo (lastQuestions capacity s u) ≡ 0
-    → (lacking (u .nodes) (drop (length (s .held)) (u .held)) ≡ false) × (length (bytes (u .log)) ≤ capacity)
+    → (anyLacks (u .nodes) (drop (length (s .held)) (u .held)) ≡ false) × (length (bytes (u .log)) ≤ capacity)
 unfolding lastQuestions
 last-passed capacity s u q = let p =
-    two-yes 13 14 (notb (lacking (u .nodes) (drop (length (s .held)) (u .held)))) (leb (length (bytes (u .log))) capacity) (omega arith)
+    two-yes 13 14 (notb (anyLacks (u .nodes) (drop (length (s .held)) (u .held)))) (leb (length (bytes (u .log))) capacity) (omega arith)
     (omega arith) q in (
-      not-true (lacking (u .nodes) (drop (length (s .held)) (u .held))) (p .0),
+      not-true (anyLacks (u .nodes) (drop (length (s .held)) (u .held))) (p .0),
       leb→le (length (bytes (u .log))) capacity
           (subst T (sym (p .1)) tt),
     )

@@ -14,7 +14,7 @@ use Rattle.memo.proofs.Lists.{map-twice, flatMap-append}
 use Rattle.record.specs.Record.{Record, termNumbers, tokenNumbers, sum, derivation, clause, deletion, numbers, bytes}
 use Rattle.record.proofs.Decode.{Small}
 use Rattle.totdb.specs.Nodes.{Node, leaves, len, output, range, at}
-use Rattle.cert.specs.Definitions.{atLeastZero, realIf, realOnlyIf, realRecords, addText, total, Definition, nothing, axiom-of, stored, lacking, Key, ifPart, real, onlyIfPart, windowIf, windowOnlyIf, windowOutputs, keyRecords, window-zero, window}
+use Rattle.cert.specs.Definitions.{atLeastZero, realIf, realOnlyIf, realRecords, addSequence, total, Definition, nothing, axiom-of, stored, lacking, Key, ifPart, real, onlyIfPart, windowIf, windowOnlyIf, windowOutputs, keyRecords, window-zero, window}
 use Rattle.cert.specs.Requests.{defTokens, Clause, clauseTokens}
 use Rattle.cert.proofs.Apart.{range-mem}
 use Rattle.cert.proofs.Fits.{KeyFits}
@@ -204,8 +204,8 @@ plus-below : (b : ℕ) → 4 < b → TokensBelow b (add ∷ [])
 unfolding tokenNumbers AllBelow
 plus-below b h = (omega arith, tt)
 
-add-text-below : (b : ℕ) (ks js : List Token) → 4 < b → TokensBelow b ks → TokensBelow b js → TokensBelow b (addText ks js)
-unfolding addText
+add-text-below : (b : ℕ) (ks js : List Token) → 4 < b → TokensBelow b ks → TokensBelow b js → TokensBelow b (addSequence ks js)
+unfolding addSequence
 add-text-below b ks [] h p q = p
 add-text-below b ks (j ∷ js) h p q = join-below b ks ((j ∷ js) ++ (add ∷ [])) p (join-below b (j ∷ js) (add ∷ []) q (plus-below b h))
 
@@ -215,7 +215,7 @@ unfolding total
 total-below b f ks [] h p q = p
 total-below b f [] (v ∷ vs) h p q = total-below b f (f v) vs h (q v (List·Memᴰ·head refl)) (λ u m. q u (List·Memᴰ·tail m))
 total-below b f (k ∷ ks) (v ∷ vs) h p q =
-    total-below b f (addText (k ∷ ks) (f v)) vs h (add-text-below b (k ∷ ks) (f v) h p (q v (List·Memᴰ·head refl))) (λ u m. q u (List·Memᴰ·tail m))
+    total-below b f (addSequence (k ∷ ks) (f v)) vs h (add-text-below b (k ∷ ks) (f v) h p (q v (List·Memᴰ·head refl))) (λ u m. q u (List·Memᴰ·tail m))
 
 -- ---- windows and clauses, where the steps are low
 
@@ -318,8 +318,8 @@ module _ (b : ℕ) (at-step : Key → ℕ → ℕ) (low-steps : (k : Key) (i : �
   pub clauseTokens-below : (c : Clause) → DefLow b (c .left) → DefLow b (c .right) → DefLow b (c .this) → TokensBelow b (clauseTokens at-step c)
   unfolding clauseTokens
   clauseTokens-below c l r th =
-      join-below b (addText (addText (defTokens at-step (c .this)) (defTokens at-step (c .left))) (defTokens at-step (c .right))) (saturate ∷ [])
-      (add-text-below b (addText (defTokens at-step (c .this)) (defTokens at-step (c .left))) (defTokens at-step (c .right)) (omega arith)
+      join-below b (addSequence (addSequence (defTokens at-step (c .this)) (defTokens at-step (c .left))) (defTokens at-step (c .right))) (saturate ∷ [])
+      (add-text-below b (addSequence (defTokens at-step (c .this)) (defTokens at-step (c .left))) (defTokens at-step (c .right)) (omega arith)
       (add-text-below b (defTokens at-step (c .this)) (defTokens at-step (c .left)) (omega arith) (defTokens-below (c .this) th)
       (defTokens-below (c .left) l)) (defTokens-below (c .right) r))
       (unfold tokenNumbers AllBelow in (omega arith, tt))

@@ -53,9 +53,9 @@ questions h t (Command.request n v d) =
 questions h t Command.close = []
 
 -- Question 13, of the requests xs: a definition that their clauses look up lacks the direction wanted.
-unfoldable pub lacking : List Node → List Request → Bool
+unfoldable pub anyLacks : List Node → List Request → Bool
 unfolding any lacksOne clausesOf
-lacking t xs = any (λ (x : Request). any lacksOne (clausesOf t x)) xs
+anyLacks t xs = any (λ (x : Request). any lacksOne (clausesOf t x)) xs
 
 -- ---- commands
 
@@ -97,11 +97,11 @@ pub data Result : Type 0 where
   accepted : State → Result
   refused : ℕ → Result
 
--- Questions 13 and 14, of the states before and after the command: its own requests are those held since, and all that it wrote fits or none.
+-- Of the states before and after the command: question 13 is put to the requests held since, question 14 to the whole log after it.
 unfoldable pub lastQuestions : ℕ → State → State → List Question
-unfolding lacking bytes
+unfolding anyLacks bytes
 lastQuestions capacity s u =
-    ask 13 (notb (lacking (u .nodes) (drop (length (s .held)) (u .held)))) ∷ ask 14 (leb (length (bytes (u .log))) capacity) ∷ []
+    ask 13 (notb (anyLacks (u .nodes) (drop (length (s .held)) (u .held)))) ∷ ask 14 (leb (length (bytes (u .log))) capacity) ∷ []
 
 unfoldable pub verdict : ℕ → State → Result
 verdict zero s = accepted s

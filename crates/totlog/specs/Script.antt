@@ -1,4 +1,4 @@
--- A script: a head, then commands. Questions 2 to 5 are put while it is read.
+-- A script: a head, then commands. Questions 2, 4 and 5 are put while it is read.
 use mathlib.Core.Bool.{Bool, true, false}
 use mathlib.Core.List.{List, [], _∷_, flatMap}
 use Prim.Native.Nat.{ℕ, zero, suc}
@@ -67,7 +67,7 @@ readCommands zero closed bs = stop 0
 readCommands (suc k) closed bs =
     elim (readCommand closed bs) [ command c rest ↦ before c (readCommands k (closes c) rest) | refuse n ↦ stop n | end ↦ stop 0 ]
 
--- A head with the bytes after it; or one of its numbers does not read.
+-- A head with the commands after it; or one of its numbers does not read.
 pub data Script : Type 0 where
   script : Head → Commands → Script
   headless : Script
