@@ -11,8 +11,8 @@ use Rattle.pb.specs.Sum.{neg}
 use Rattle.memo.proofs.Lists.{flatMap-append}
 use Rattle.record.specs.Record.{Record, steps, sum, derivation, clause, deletion, clauses}
 use Rattle.record.specs.Steps.{Defined, derived}
-use Rattle.totdb.specs.Nodes.{Node, len, leaves, at, range}
-use Rattle.cert.specs.Definitions.{realRecords, asWritten, atLeastZero, realIf, realOnlyIf, Key, windowIf, windowOnlyIf, windowIfSum, windowOnlyIfSum, keyRecords, definedBy, real, window-zero, window, windowOutputs}
+use Rattle.totdb.specs.Nodes.{Node, len, leaves, at, range, outputs}
+use Rattle.cert.specs.Definitions.{realRecords, asWritten, atLeastZero, realIf, realOnlyIf, Key, windowIf, windowOnlyIf, windowIfSum, windowOnlyIfSum, keyRecords, definedBy, real, window-zero, window}
 use Rattle.cert.specs.Requests.{Clause, clauseTokens, Request}
 use Rattle.cert.specs.State.{State, keys, start, define, stepIn, write, serve, hold, Head}
 use Rattle.cert.proofs.Rules.{KeyIn, keyNode, at-more, Ok}
@@ -53,7 +53,7 @@ key-count f t (real n v) = real-count (at t n) v
 key-count f t (window-zero n o m) = unfold steps atLeastZero in refl
 key-count f t (window n o m) = simp (steps-append, length-append) (omega (arith, windows-count f n (at t n) o m (range (o + 1) m), one))
   where
-    one : steps (atLeastZero (map neg (windowOutputs (at t n) o m)) ∷ []) ≡ 1
+    one : steps (atLeastZero (map neg (outputs (at t n) o m)) ∷ []) ≡ 1
     one = unfold steps atLeastZero in refl
 
 -- Later nodes change no definition.

@@ -9,7 +9,7 @@ use native.Mathlib.Omega.{arith}
 use lib.ListN.{length, length-append}
 use Rattle.pb.specs.Sum.{variable, units}
 use Rattle.pb.proofs.Normal.{Off, Apart}
-use Rattle.totdb.specs.Nodes.{Node, len, at, output, leaf, taken, leaves, Side, join, range, isOver, sideLeaves}
+use Rattle.totdb.specs.Nodes.{Node, len, at, output, leaf, taken, leaves, Side, join, range, isOver, sideLeaves, outputs}
 use Rattle.cert.proofs.Apart.{range-mem}
 use Rattle.cert.proofs.Rules.{at-more, sideLeaves-more}
 use Rattle.cert.proofs.Tables.{length-snoc, at-last, at-snoc, taken-snoc}
@@ -199,18 +199,10 @@ module _ (t : List Node) (a : Node) where
           (left-more t (a ∷ []) a new-left);
     }
 
-pub shift-map : (x : Node) (o b k : ℕ) → map (output x) (range (o + b) k) ≡ map (λ (i : ℕ). output x (o + i)) (range b k)
-unfolding range
-shift-map x o b zero = refl
-shift-map x o b (suc k) = let e : suc (o + b) ≡ o + suc b = omega arith in
-    rw e (ap {B = List ℕ} (λ (l : List ℕ). output x (o + b) ∷ l) (shift-map x o (suc b) k))
-
--- Outputs from an offset on.
-pub shifted : (x : Node) (o k : ℕ) → o + k ≤ len x → Different (map (λ (i : ℕ). output x (o + i)) (range 1 k))
-shifted x o k h = subst Different (shift 1 k) (outputs-different x (o + 1) k (omega arith) (omega arith))
-  where
-    shift : (b k : ℕ) → map (output x) (range (o + b) k) ≡ map (λ (i : ℕ). output x (o + i)) (range b k)
-    shift b k = shift-map x o b k
+-- The outputs of values above an offset.
+pub shifted : (x : Node) (o k : ℕ) → o + k ≤ len x → Different (outputs x o k)
+unfolding outputs
+shifted x o k h = outputs-different x (o + 1) k (omega arith) (omega arith)
 
 pub higher : (y v j : ℕ) (ls : List ℕ) (l r : Side) → y < 2 * v → 1 ≤ j → variable y ≡ variable (output (join ls v l r) j) → ⊥
 unfolding output variable

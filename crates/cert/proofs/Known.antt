@@ -15,8 +15,8 @@ use Rattle.pb.specs.Sum.{Sum, normal, _≥_, keep, _·_, neg, Term, units, vari
 use Rattle.pb.proofs.Normal.{Off, Apart}
 use Rattle.record.specs.Record.{Record, sum, derivation, clause, deletion, steps}
 use Rattle.record.specs.Steps.{Defined, written, derived, sumsAfter, stepSum}
-use Rattle.totdb.specs.Nodes.{Node, len, leaves, output, range, Side, join, leaf, at}
-use Rattle.cert.specs.Definitions.{Key, definedBy, realRecords, realIf, realOnlyIf, atLeastZero, asWritten, real, outputsBefore, outputsAfter, total, ifPart, windowIfSum, onlyIfPart, windowOnlyIfSum, windowIf, windowOnlyIf, pulls, window, keyRecords, window-zero, windowOutputs}
+use Rattle.totdb.specs.Nodes.{Node, len, leaves, output, range, Side, join, leaf, at, outputs}
+use Rattle.cert.specs.Definitions.{Key, definedBy, realRecords, realIf, realOnlyIf, atLeastZero, asWritten, real, outputsBefore, outputsAfter, total, ifPart, windowIfSum, onlyIfPart, windowOnlyIfSum, windowIf, windowOnlyIf, pulls, window, keyRecords, window-zero}
 use Rattle.cert.specs.Equal.{key-dec}
 use Rattle.cert.specs.State.{Stored, fromIn, State, keys, stepIn, define, Head}
 use Rattle.cert.proofs.Apart.{range-has, range-mem}
@@ -287,7 +287,7 @@ module _ (h : Head) (t : List Node) (d : Distinct t) (s : State) (k : KnownIn h 
       → sumsAfter (h .step) (knownOf h s) (keyRecords (stepIn (s .stored)) t j) ≡ knownOf h s ++ map sumOf (definedBy t j)
   unfolding keyRecords definedBy KeyFits
   key-sums (real n v) g b = plain-sums (h .step) (knownOf h s) (realRecords (at t n) v) (real-plain (at t n) v)
-  key-sums (window-zero n f m) g b = one-plain (h .step) (knownOf h s) (windowOutputs (at t n) f m)
+  key-sums (window-zero n f m) g b = one-plain (h .step) (knownOf h s) (outputs (at t n) f m)
   key-sums (window n f m) g b =
       let x = at t n in
       let rs = flatMap {B = Record} (λ (v : ℕ). windowIf (stepIn (s .stored)) n x f m v ∷ windowOnlyIf (stepIn (s .stored)) n x f m v ∷ [])
@@ -301,11 +301,11 @@ module _ (h : Head) (t : List Node) (d : Distinct t) (s : State) (k : KnownIn h 
       (range (f + 1) m) (λ v i. omega (arith, range-mem (f + 1) m v i)) [] in
       let w′ : sumsAfter (h .step) (knownOf h s) rs ≡ knownOf h s ++ map sumOf ds =
       subst (λ (y : List (Option Sum)). sumsAfter (h .step) y rs ≡ knownOf h s ++ map sumOf ds) (append-nil (knownOf h s)) w in
-      sums-append (h .step) (knownOf h s) rs (atLeastZero (map neg (windowOutputs x f m)) ∷ [])
-      ∙ ap (λ (y : List (Option Sum)). sumsAfter (h .step) y (atLeastZero (map neg (windowOutputs x f m)) ∷ [])) w′
-      ∙ one-plain (h .step) (knownOf h s ++ map sumOf ds) (map neg (windowOutputs x f m))
+      sums-append (h .step) (knownOf h s) rs (atLeastZero (map neg (outputs x f m)) ∷ [])
+      ∙ ap (λ (y : List (Option Sum)). sumsAfter (h .step) y (atLeastZero (map neg (outputs x f m)) ∷ [])) w′
+      ∙ one-plain (h .step) (knownOf h s ++ map sumOf ds) (map neg (outputs x f m))
       ∙ append-assoc (knownOf h s) (map sumOf ds) _
-      ∙ ap (λ (y : List (Option Sum)). knownOf h s ++ y) (sym (map-append sumOf ds (written 0 (units (map neg (windowOutputs x f m))) 0 ∷ [])))
+      ∙ ap (λ (y : List (Option Sum)). knownOf h s ++ y) (sym (map-append sumOf ds (written 0 (units (map neg (outputs x f m))) 0 ∷ [])))
 
   pub known-define : (j : Key) → KeyFits t j → ((i : Key) → List·Memᴰ i (pulls j) → List·Memᴰ i (keys s)) → KnownIn h t (define t j s)
   unfolding define

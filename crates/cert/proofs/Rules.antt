@@ -9,7 +9,7 @@ use lib.ListN.{length, length-append, List·getD-append}
 use Rattle.memo.proofs.Grow.{World, Grows}
 use Rattle.memo.proofs.Lists.{map-agree, of-flatMap}
 use Rattle.memo.proofs.Serve.{Falls}
-use Rattle.totdb.specs.Nodes.{Node, leaf, join, at, Side, sideLen, sideLit, sideOutputs, range, sideLeaves, plainOr, leaves, len}
+use Rattle.totdb.specs.Nodes.{Node, leaf, join, at, Side, sideLen, sideLit, sideOutputs, outputs, range, sideLeaves, plainOr, leaves, len}
 use Rattle.cert.specs.Definitions.{Key, real, window-zero, window, pulls, Direction, Definition, stored, oneDef, if, only-if, lacking, realDef, windowDef, longDef, sideDef}
 use Rattle.cert.specs.Equal.{keyRank}
 use Rattle.cert.specs.Requests.{Request, clausesOf, Clause, looksOf, nodeOf, needs, needsAt, below, request, named, keyOf, clausesAt, ifClause, onlyIfClause, splits, negPart, posPart, literalsOf, lookups}
@@ -58,8 +58,8 @@ sideLit-more t u s i h = rw (at-more t u (s .node) h)
 
 sideOutputs-more : (t u : List Node) (s : Side) → s .node < length t → sideOutputs t s ≡ sideOutputs (t ++ u) s
 unfolding sideOutputs
-sideOutputs-more t u s h = map-agree {f = sideLit t s} {g = sideLit (t ++ u) s} (range 1 (sideLen t s)) (λ i m. sideLit-more t u s i h)
-    ∙ ap (λ (m : ℕ). map (sideLit (t ++ u) s) (range 1 m)) (sideLen-more t u s h)
+sideOutputs-more t u s h = ap (λ (x : Node). outputs x (s .offset) (sideLen t s)) (at-more t u (s .node) h)
+    ∙ ap (outputs (at (t ++ u) (s .node)) (s .offset)) (sideLen-more t u s h)
 
 pub sideLeaves-more : (t u : List Node) (s : Side) → s .node < length t → sideLeaves t s ≡ sideLeaves (t ++ u) s
 unfolding sideLeaves

@@ -13,8 +13,8 @@ use Rattle.memo.proofs.Machine.{each-still, ask-still, asks-serve, batch-serves
 use Rattle.memo.proofs.Memo.{Log, Works, batch-kept}
 use Rattle.memo.proofs.Serve.{Serves, serves-nil, serves-then, Falls}
 use Rattle.record.specs.Record.{Record, clauses, sum, derivation, clause, deletion}
-use Rattle.totdb.specs.Nodes.{Node, len, leaves, at, range}
-use Rattle.cert.specs.Definitions.{realRecords, atLeastZero, realIf, realOnlyIf, Key, windowIf, windowOnlyIf, keyRecords, real, window-zero, window, windowOutputs, pulls}
+use Rattle.totdb.specs.Nodes.{Node, len, leaves, at, range, outputs}
+use Rattle.cert.specs.Definitions.{realRecords, atLeastZero, realIf, realOnlyIf, Key, windowIf, windowOnlyIf, keyRecords, real, window-zero, window, pulls}
 use Rattle.cert.specs.Equal.{key-dec, keyRank, request-dec}
 use Rattle.cert.specs.Requests.{Clause, Request, looksOf, clausesOf, nodeOf, needs, literalsOf, lookups}
 use Rattle.cert.specs.State.{State, keys, define, Stored, stepIn, write, lookUp, writeClause, writeRequest, hold, serve}
@@ -52,7 +52,7 @@ key-no-clauses f t (real n v) = real-no-clauses (at t n) v
 key-no-clauses f t (window-zero n o m) = unfold clauses atLeastZero in refl
 key-no-clauses f t (window n o m) =
     clauses-append (flatMap {B = Record} (λ (v : ℕ). windowIf f n (at t n) o m v ∷ windowOnlyIf f n (at t n) o m v ∷ []) (range (o + 1) m))
-    (atLeastZero (map neg (windowOutputs (at t n) o m)) ∷ [])
+    (atLeastZero (map neg (outputs (at t n) o m)) ∷ [])
     ∙ rw (windows-no-clauses f n (at t n) o m (range (o + 1) m)) (unfold clauses atLeastZero in refl)
 
 pub define-keys : (t : List Node) (k : Key) (s : State) → keys (define t k s) ≡ keys s ++ (k ∷ [])

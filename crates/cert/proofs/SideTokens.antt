@@ -9,13 +9,13 @@ use lib.ListN.{length}
 use Rattle.pb.specs.Sum.{variable, units}
 use Rattle.pb.proofs.Normal.{Off}
 use Rattle.record.specs.Steps.{stepSum}
-use Rattle.totdb.specs.Nodes.{Node, Side, len, join, leaves, at, leaf, sideLit, range, output, sideLen, sideLeaves, plainOr, limited, sideOutputs}
-use Rattle.cert.specs.Definitions.{windowOutputs, real, realDef, only-if, stored, lacking, if, window, windowDef, Key, pulls, window-zero, longDef, sideDef, oneDef}
+use Rattle.totdb.specs.Nodes.{Node, Side, len, join, leaves, at, leaf, sideLit, range, output, sideLen, sideLeaves, plainOr, limited, sideOutputs, outputs}
+use Rattle.cert.specs.Definitions.{real, realDef, only-if, stored, lacking, if, window, windowDef, Key, pulls, window-zero, longDef, sideDef, oneDef}
 use Rattle.cert.specs.Requests.{keyOf, defTokens}
 use Rattle.cert.specs.State.{State, keys, stepIn, Head}
 use Rattle.cert.proofs.Apart.{Fit, Sized}
 use Rattle.cert.proofs.ClauseDerivations.{Stands}
-use Rattle.cert.proofs.Distinct.{Distinct, off-units, own-apart, shift-map}
+use Rattle.cert.proofs.Distinct.{Distinct, off-units, own-apart}
 use Rattle.cert.proofs.Known.{KnownIn, long-join, knownOf}
 use Rattle.cert.proofs.Sides.{real-only-stands, real-if-stands, window-only-stands, window-if-stands, one-only, one-if}
 use Rattle.cert.proofs.Totalizer.{real-only-if, real-if, leaf-zero, leaf-two}
@@ -32,8 +32,8 @@ short-leaf t sz n h g = by (at t n) refl g (unfold Sized in sz n h)
     by (leaf l) e a f = (l, e)
     by (join ls o a b) e c f = absurd (short-join t n ls o a b c f)
 
-one-output : (t : List Node) (c : Side) → windowOutputs (at t (c .node)) (c .offset) 1 ≡ sideLit t c 1 ∷ []
-unfolding windowOutputs sideLit range
+one-output : (t : List Node) (c : Side) → outputs (at t (c .node)) (c .offset) 1 ≡ sideLit t c 1 ∷ []
+unfolding outputs sideLit range
 one-output t c = refl
 
 -- The keys of a definition.
@@ -84,17 +84,14 @@ module _ (h : Head) (t : List Node) (sz : Sized t) (d : Distinct t) (s : State) 
       unfold sideLen in rw (e, g) (unfold limited in omega arith),
     )
 
-    window-leaves : (0 < c .offset + c .limit) → sideLeaves t c ≡ windowOutputs (at t (c .node)) (c .offset) (sideLen t c)
-    unfolding sideLeaves plainOr
-    window-leaves g = by (c .offset) (c .limit) g ∙ outs
+    window-leaves : (0 < c .offset + c .limit) → sideLeaves t c ≡ outputs (at t (c .node)) (c .offset) (sideLen t c)
+    unfolding sideLeaves plainOr sideOutputs
+    window-leaves g = by (c .offset) (c .limit) g
       where
         by : (f j : ℕ) → 0 < f + j → plainOr f j (leaves (at t (c .node))) (sideOutputs t c) ≡ sideOutputs t c
         by zero zero l = absurd (omega arith)
         by zero (suc j) l = refl
         by (suc f) j l = refl
-
-        outs : sideOutputs t c ≡ windowOutputs (at t (c .node)) (c .offset) (sideLen t c)
-        outs = unfold sideOutputs windowOutputs sideLit in sym (shift-map (at t (c .node)) (c .offset) 1 (sideLen t c))
 
     plain-long : (e : c .offset ≡ 0) (g : c .limit ≡ 0) (i : ℕ) → (sideLit t c i ≡ output (at t (c .node)) i)
     plain-long e g i = unfold sideLit in ap (output (at t (c .node))) (omega arith)
@@ -110,7 +107,7 @@ module _ (h : Head) (t : List Node) (sz : Sized t) (d : Distinct t) (s : State) 
             p .0 ∙ rw (plain-long (omega arith) (omega arith) 1) (rw (q .1) (unfold leaves output in refl))
         by (no e) =
             let m : sideLen t c ≡ 1 = omega arith in
-            window-leaves (omega arith) ∙ ap (windowOutputs (at t (c .node)) (c .offset)) m ∙ one-output t c
+            window-leaves (omega arith) ∙ ap (outputs (at t (c .node)) (c .offset)) m ∙ one-output t c
 
     module _ (more : 1 < sideLen t c) where
       plain-only : c .offset ≡ 0 → c .limit ≡ 0 → (i : ℕ) → i ≤ sideLen t c → List·Memᴰ (real (c .node) i) (keys s)

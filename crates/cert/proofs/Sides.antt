@@ -12,8 +12,8 @@ use Rattle.pb.specs.Sum.{Sum, normal, _·_, neg, variable, units, _≥_, keep}
 use Rattle.pb.proofs.Normal.{Clean, Same, Apart-clean, Off, Apart}
 use Rattle.pb.proofs.Rules.{same-refl}
 use Rattle.record.specs.Steps.{Defined, derived, stepSum, written}
-use Rattle.totdb.specs.Nodes.{Node, len, leaves, range, at, output}
-use Rattle.cert.specs.Definitions.{Key, oneDef, only-if, if, realRecords, atLeastZero, realIf, realOnlyIf, definedBy, real, realDef, asWritten, stored, lacking, window, window-zero, windowOutputs, outputsBefore, outputsAfter, windowIfSum, windowOnlyIfSum, windowDef, windowOnlyIfOf, windowIfOf}
+use Rattle.totdb.specs.Nodes.{Node, len, leaves, range, at, output, outputs}
+use Rattle.cert.specs.Definitions.{Key, oneDef, only-if, if, realRecords, atLeastZero, realIf, realOnlyIf, definedBy, real, realDef, asWritten, stored, lacking, window, window-zero, outputsBefore, outputsAfter, windowIfSum, windowOnlyIfSum, windowDef, windowOnlyIfOf, windowIfOf}
 use Rattle.cert.specs.Requests.{defTokens}
 use Rattle.cert.specs.State.{State, keys, fromIn, stepIn, Head}
 use Rattle.cert.proofs.Apart.{length-range}
@@ -177,17 +177,17 @@ module _ (h : Head) (t : List Node) (s : State) (k : KnownIn h t s) where
 
   module _ (n f m : ℕ) (fits : f + m ≤ len (at t n)) (stored-window : List·Memᴰ (window n f m) (keys s))
       (stored-zero : List·Memᴰ (window-zero n f m) (keys s)) where
-    outs-different : Different (windowOutputs (at t n) f m)
-    unfolding windowOutputs
+    outs-different : Different (outputs (at t n) f m)
+    unfolding outputs
     outs-different = outputs-different (at t n) (f + 1) m (omega arith) (omega arith)
 
-    outs-length : length (windowOutputs (at t n) f m) ≡ m
-    unfolding windowOutputs
+    outs-length : length (outputs (at t n) f m) ≡ m
+    unfolding outputs
     outs-length = length-map (range (f + 1) m) (output (at t n)) ∙ length-range (f + 1) m
 
     around : (i : ℕ) → i < m
-        → (windowOutputs (at t n) f m) ≡ outputsBefore (at t n) f (f + 1 + i) ++ output (at t n) (f + 1 + i) ∷ outputsAfter (at t n) f m (f + 1 + i)
-    unfolding windowOutputs outputsBefore outputsAfter
+        → (outputs (at t n) f m) ≡ outputsBefore (at t n) f (f + 1 + i) ++ output (at t n) (f + 1 + i) ∷ outputsAfter (at t n) f m (f + 1 + i)
+    unfolding outputs outputsBefore outputsAfter
     around i l = ap (map (output (at t n))) (range-around f m (f + 1 + i) (omega arith) (omega arith))
         ∙ map-append (output (at t n)) (range (f + 1) (f + 1 + i - (f + 1))) ((f + 1 + i) ∷ range (f + 1 + i + 1) (f + m - (f + 1 + i)))
 
@@ -202,7 +202,7 @@ module _ (h : Head) (t : List Node) (s : State) (k : KnownIn h t s) where
     window-list : List Defined
     window-list = flatMap {B = Defined}
         (λ (v : ℕ). derived (some (windowIfSum (at t n) f m v)) ∷ derived (some (windowOnlyIfSum (at t n) f m v)) ∷ []) (range (f + 1) m) ++
-        (written 0 (units (map neg (windowOutputs (at t n) f m))) 0 ∷ [])
+        (written 0 (units (map neg (outputs (at t n) f m))) 0 ∷ [])
 
     list-is : definedBy t (window n f m) ≡ window-list
     unfolding definedBy window-list
@@ -211,7 +211,7 @@ module _ (h : Head) (t : List Node) (s : State) (k : KnownIn h t s) where
     list-length : length (definedBy t (window n f m)) ≡ 2 * m + 1
     unfolding definedBy
     list-length = pairs-length (λ (v : ℕ). derived (some (windowIfSum (at t n) f m v))) (λ (v : ℕ). derived (some (windowOnlyIfSum (at t n) f m v)))
-        (f + 1) m (written 0 (units (map neg (windowOutputs (at t n) f m))) 0)
+        (f + 1) m (written 0 (units (map neg (outputs (at t n) f m))) 0)
 
     only-at : (i : ℕ) → i < m
         → stepSum (h .step) (knownOf h s) (fromIn (s .stored) (window n f m) + (2 * i + 1)) ≡ some (windowOnlyIfSum (at t n) f m (f + 1 + i))
@@ -219,7 +219,7 @@ module _ (h : Head) (t : List Node) (s : State) (k : KnownIn h t s) where
         ∙ sum-at (window n f m) window-list (2 * i + 1) (derived (some (windowOnlyIfSum (at t n) f m (f + 1 + i)))) list-is
         (unfold window-list in
         pairs-at (λ (v : ℕ). derived (some (windowIfSum (at t n) f m v))) (λ (v : ℕ). derived (some (windowOnlyIfSum (at t n) f m v))) (f + 1) m
-        (written 0 (units (map neg (windowOutputs (at t n) f m))) 0 ∷ []) (derived none) i l .1) ∙ (unfold sumOf in refl)
+        (written 0 (units (map neg (outputs (at t n) f m))) 0 ∷ []) (derived none) i l .1) ∙ (unfold sumOf in refl)
 
     if-at : (i : ℕ) → i < m
         → stepSum (h .step) (knownOf h s) (fromIn (s .stored) (window n f m) + 2 * i) ≡ some (windowIfSum (at t n) f m (f + 1 + i))
@@ -227,45 +227,45 @@ module _ (h : Head) (t : List Node) (s : State) (k : KnownIn h t s) where
         ∙ sum-at (window n f m) window-list (2 * i) (derived (some (windowIfSum (at t n) f m (f + 1 + i)))) list-is
         (unfold window-list in
         pairs-at (λ (v : ℕ). derived (some (windowIfSum (at t n) f m v))) (λ (v : ℕ). derived (some (windowOnlyIfSum (at t n) f m v))) (f + 1) m
-        (written 0 (units (map neg (windowOutputs (at t n) f m))) 0 ∷ []) (derived none) i l .0) ∙ (unfold sumOf in refl)
+        (written 0 (units (map neg (outputs (at t n) f m))) 0 ∷ []) (derived none) i l .0) ∙ (unfold sumOf in refl)
 
     last-at : stepSum (h .step) (knownOf h s) (fromIn (s .stored) (window n f m) + 2 * m) ≡ some
-        (normal (units (map neg (windowOutputs (at t n) f m)) ≥ 0))
+        (normal (units (map neg (outputs (at t n) f m)) ≥ 0))
     last-at = key-step (window n f m) stored-window (2 * m) (omega (arith, list-length))
-        ∙ sum-at (window n f m) window-list (2 * m) (written 0 (units (map neg (windowOutputs (at t n) f m))) 0) list-is
+        ∙ sum-at (window n f m) window-list (2 * m) (written 0 (units (map neg (outputs (at t n) f m))) 0) list-is
         (unfold window-list in
         pairs-last (λ (v : ℕ). derived (some (windowIfSum (at t n) f m v))) (λ (v : ℕ). derived (some (windowOnlyIfSum (at t n) f m v))) (f + 1) m
-        (written 0 (units (map neg (windowOutputs (at t n) f m))) 0) (derived none)) ∙ (unfold sumOf in refl)
+        (written 0 (units (map neg (outputs (at t n) f m))) 0) (derived none)) ∙ (unfold sumOf in refl)
 
-    zero-at : stepSum (h .step) (knownOf h s) (fromIn (s .stored) (window-zero n f m)) ≡ some (normal (units (windowOutputs (at t n) f m) ≥ 0))
+    zero-at : stepSum (h .step) (knownOf h s) (fromIn (s .stored) (window-zero n f m)) ≡ some (normal (units (outputs (at t n) f m) ≥ 0))
     zero-at = let e : fromIn (s .stored) (window-zero n f m) ≡ fromIn (s .stored) (window-zero n f m) + 0 = omega arith in
         rw e (key-step (window-zero n f m) stored-zero 0 (unfold definedBy in omega arith) ∙ (unfold definedBy sumOf in refl))
 
-    zero-sum : (p : ℕ) → real-only-if (windowOutputs (at t n) f m) p 0 ≡ (units (windowOutputs (at t n) f m) ≥ 0)
+    zero-sum : (p : ℕ) → real-only-if (outputs (at t n) f m) p 0 ≡ (units (outputs (at t n) f m) ≥ 0)
     unfolding real-only-if keep
     zero-sum p = rw append-nil
 
-    top-sum : (p : ℕ) → real-if (windowOutputs (at t n) f m) p (m + 1) ≡ (units (map neg (windowOutputs (at t n) f m)) ≥ 0)
+    top-sum : (p : ℕ) → real-if (outputs (at t n) f m) p (m + 1) ≡ (units (map neg (outputs (at t n) f m)) ≥ 0)
     unfolding real-if
-    top-sum p = let z : length (windowOutputs (at t n) f m) + 1 - (m + 1) ≡ 0 = omega (arith, outs-length) in rw z (unfold keep in rw append-nil)
+    top-sum p = let z : length (outputs (at t n) f m) + 1 - (m + 1) ≡ 0 = omega (arith, outs-length) in rw z (unfold keep in rw append-nil)
 
     value-is : (i : ℕ) → f + suc i ≡ f + 1 + i
     value-is i = omega arith
 
     pub window-only-stands : (i : ℕ) → i ≤ m
         → Stands (stepSum (h .step) (knownOf h s)) (defTokens (stepIn (s .stored)) (windowDef n f m i only-if))
-        (real-only-if (windowOutputs (at t n) f m) (output (at t n) (f + i)) i)
+        (real-only-if (outputs (at t n) f m) (output (at t n) (f + i)) i)
     unfolding defTokens windowDef stepIn
     window-only-stands zero l =
         rw (zero-sum (output (at t n) (f + 0)))
-        (stands-step (fromIn (s .stored) (window-zero n f m)) (units (windowOutputs (at t n) f m) ≥ 0)
-        (units (windowOutputs (at t n) f m) ≥ 0) zero-at (Apart-clean _ (different-apart (windowOutputs (at t n) f m) outs-different)) (same-refl _))
+        (stands-step (fromIn (s .stored) (window-zero n f m)) (units (outputs (at t n) f m) ≥ 0)
+        (units (outputs (at t n) f m) ≥ 0) zero-at (Apart-clean _ (different-apart (outputs (at t n) f m) outs-different)) (same-refl _))
     window-only-stands (suc i) l = by (decLe (suc i) m)
       where
         by : (c : Dec (suc i ≤ m))
             → Stands (stepSum (h .step) (knownOf h s))
             (defTokens (stepIn (s .stored)) (dite c (λ _. stored (window n f m) (2 * i + 2)) (λ _. lacking)))
-            (real-only-if (windowOutputs (at t n) f m) (output (at t n) (f + suc i)) (suc i))
+            (real-only-if (outputs (at t n) f m) (output (at t n) (f + suc i)) (suc i))
         by (no e) = absurd (e l)
         by (yes e) =
             let z : 2 * i + 2 ≡ suc (2 * i + 1) = omega arith in
@@ -273,18 +273,18 @@ module _ (h : Head) (t : List Node) (s : State) (k : KnownIn h t s) where
             let xs = outputsBefore (at t n) f (f + 1 + i) in
             let ys = outputsAfter (at t n) f m (f + 1 + i) in
             let apart : Apart (units (xs ++ w ∷ ys)) =
-            subst (λ (o : List ℕ). Apart (units o)) (around i e) (different-apart (windowOutputs (at t n) f m) outs-different) in
-            let same : Same (windowOnlyIfOf xs w ys) (real-only-if (windowOutputs (at t n) f m) (output (at t n) (f + suc i)) (suc i)) =
+            subst (λ (o : List ℕ). Apart (units o)) (around i e) (different-apart (outputs (at t n) f m) outs-different) in
+            let same : Same (windowOnlyIfOf xs w ys) (real-only-if (outputs (at t n) f m) (output (at t n) (f + suc i)) (suc i)) =
             rw (around i e, value-is i)
             (subst (λ (v : ℕ). Same (windowOnlyIfOf xs w ys) (real-only-if (xs ++ w ∷ ys) w v)) (omega (arith, before-length i))
             (window-only-if-real xs w ys)) in
             rw z (stands-step (fromIn (s .stored) (window n f m) + (2 * i + 1)) (windowOnlyIfOf xs w ys)
-            (real-only-if (windowOutputs (at t n) f m) (output (at t n) (f + suc i)) (suc i)) (only-at i e ∙ (unfold windowOnlyIfSum in refl))
+            (real-only-if (outputs (at t n) f m) (output (at t n) (f + suc i)) (suc i)) (only-at i e ∙ (unfold windowOnlyIfSum in refl))
             (window-only-if-clean xs w ys apart) same)
 
     pub window-if-stands : (i : ℕ) → 1 ≤ i → i ≤ m + 1
         → Stands (stepSum (h .step) (knownOf h s)) (defTokens (stepIn (s .stored)) (windowDef n f m i if))
-        (real-if (windowOutputs (at t n) f m) (output (at t n) (f + i)) i)
+        (real-if (outputs (at t n) f m) (output (at t n) (f + i)) i)
     unfolding defTokens windowDef stepIn
     window-if-stands zero g l = absurd (omega arith)
     window-if-stands (suc i) g l = by (decLt i m)
@@ -293,26 +293,26 @@ module _ (h : Head) (t : List Node) (s : State) (k : KnownIn h t s) where
         z = omega arith
 
         by : Dec (i < m) → Stands (stepSum (h .step) (knownOf h s)) (step (stepIn (s .stored) (window n f m) (2 * i + 1)) ∷ [])
-            (real-if (windowOutputs (at t n) f m) (output (at t n) (f + suc i)) (suc i))
+            (real-if (outputs (at t n) f m) (output (at t n) (f + suc i)) (suc i))
         by (yes e) =
             let w = output (at t n) (f + 1 + i) in
             let xs = outputsBefore (at t n) f (f + 1 + i) in
             let ys = outputsAfter (at t n) f m (f + 1 + i) in
             let apart : Apart (units (xs ++ w ∷ ys)) =
-            subst (λ (o : List ℕ). Apart (units o)) (around i e) (different-apart (windowOutputs (at t n) f m) outs-different) in
-            let same : Same (windowIfOf xs w ys) (real-if (windowOutputs (at t n) f m) (output (at t n) (f + suc i)) (suc i)) =
+            subst (λ (o : List ℕ). Apart (units o)) (around i e) (different-apart (outputs (at t n) f m) outs-different) in
+            let same : Same (windowIfOf xs w ys) (real-if (outputs (at t n) f m) (output (at t n) (f + suc i)) (suc i)) =
             rw (around i e, value-is i)
             (subst (λ (v : ℕ). Same (windowIfOf xs w ys) (real-if (xs ++ w ∷ ys) w v)) (omega (arith, before-length i))
             (window-if-real xs w ys)) in
             rw z (stands-step (fromIn (s .stored) (window n f m) + 2 * i) (windowIfOf xs w ys)
-            (real-if (windowOutputs (at t n) f m) (output (at t n) (f + suc i)) (suc i)) (if-at i e ∙ (unfold windowIfSum in refl))
+            (real-if (outputs (at t n) f m) (output (at t n) (f + suc i)) (suc i)) (if-at i e ∙ (unfold windowIfSum in refl))
             (window-if-clean xs w ys apart) same)
         by (no e) =
             let q : i ≡ m = omega arith in
             let v : suc i ≡ m + 1 = omega arith in
-            let r : real-if (windowOutputs (at t n) f m) (output (at t n) (f + suc i)) (suc i) ≡ (units (map neg (windowOutputs (at t n) f m)) ≥ 0) =
-            ap (real-if (windowOutputs (at t n) f m) (output (at t n) (f + suc i))) v ∙ top-sum (output (at t n) (f + suc i)) in
-            rw (r, z) (stands-step (fromIn (s .stored) (window n f m) + 2 * i) (units (map neg (windowOutputs (at t n) f m)) ≥ 0)
-            (units (map neg (windowOutputs (at t n) f m)) ≥ 0)
+            let r : real-if (outputs (at t n) f m) (output (at t n) (f + suc i)) (suc i) ≡ (units (map neg (outputs (at t n) f m)) ≥ 0) =
+            ap (real-if (outputs (at t n) f m) (output (at t n) (f + suc i))) v ∙ top-sum (output (at t n) (f + suc i)) in
+            rw (r, z) (stands-step (fromIn (s .stored) (window n f m) + 2 * i) (units (map neg (outputs (at t n) f m)) ≥ 0)
+            (units (map neg (outputs (at t n) f m)) ≥ 0)
             (ap (λ (j : ℕ). stepSum (h .step) (knownOf h s) (fromIn (s .stored) (window n f m) + 2 * j)) q ∙ last-at)
-            (Apart-clean _ (apart-negs (windowOutputs (at t n) f m) (different-apart (windowOutputs (at t n) f m) outs-different))) (same-refl _))
+            (Apart-clean _ (apart-negs (outputs (at t n) f m) (different-apart (outputs (at t n) f m) outs-different))) (same-refl _))

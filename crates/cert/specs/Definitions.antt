@@ -9,7 +9,7 @@ use Rattle.pb.specs.Rules.{Token, step, literal, add, divide, saturate}
 use Rattle.pb.specs.Sum.{neg, _·_, Sum, _≥_, units, keep, normal}
 use Rattle.record.specs.Record.{Record, sum, derivation, clause, deletion}
 use Rattle.record.specs.Steps.{Defined, written, derived}
-use Rattle.totdb.specs.Nodes.{Side, Node, at, leaves, len, output, range, sideLen, sideLit, plainOr}
+use Rattle.totdb.specs.Nodes.{Side, Node, at, leaves, len, output, range, sideLen, sideLit, plainOr, outputs}
 
 -- The direction of a definition or a request (rustsat's Semantics), for an output of value v. `if`: where at least v of the leaf list are true, the
 -- output is true. `only-if`: the output is true only where at least v are.
@@ -133,19 +133,15 @@ unfoldable pub windowOnlyIf : (Key → ℕ → ℕ) → ℕ → Node → ℕ →
 unfolding total onlyIfPart range
 windowOnlyIf at-step n x f m v = derivation (total [] (map (onlyIfPart at-step n x v) (range (f + 1) m)))
 
-unfoldable pub windowOutputs : Node → ℕ → ℕ → List ℕ
-unfolding output range
-windowOutputs x f m = map (output x) (range (f + 1) m)
-
 -- ---- the records of a key
 
 unfoldable pub keyRecords : (Key → ℕ → ℕ) → List Node → Key → List Record
-unfolding at realRecords atLeastZero windowOutputs windowIf windowOnlyIf flatMap neg
+unfolding at realRecords atLeastZero outputs windowIf windowOnlyIf flatMap neg
 keyRecords at-step t (real n v) = realRecords (at t n) v
-keyRecords at-step t (window-zero n f m) = atLeastZero (windowOutputs (at t n) f m) ∷ []
+keyRecords at-step t (window-zero n f m) = atLeastZero (outputs (at t n) f m) ∷ []
 keyRecords at-step t (window n f m) =
     flatMap {B = Record} (λ (v : ℕ). windowIf at-step n (at t n) f m v ∷ windowOnlyIf at-step n (at t n) f m v ∷ []) (range (f + 1) m)
-    ++ (atLeastZero (map neg (windowOutputs (at t n) f m)) ∷ [])
+    ++ (atLeastZero (map neg (outputs (at t n) f m)) ∷ [])
 
 -- ---- the sums that a key defines: what its records come to
 
@@ -161,12 +157,12 @@ windowOnlyIfOf xs w ys = (units (xs ++ ys) ++ keep (length xs) (neg w) []) ≥ l
 
 -- The outputs of a window before value v, and after it.
 unfoldable pub outputsBefore : Node → ℕ → ℕ → List ℕ
-unfolding output range
-outputsBefore x f v = map (output x) (range (f + 1) (v - (f + 1)))
+unfolding outputs
+outputsBefore x f v = outputs x f (v - (f + 1))
 
 unfoldable pub outputsAfter : Node → ℕ → ℕ → ℕ → List ℕ
-unfolding output range
-outputsAfter x f m v = map (output x) (range (v + 1) (f + m - v))
+unfolding outputs
+outputsAfter x f m v = outputs x v (f + m - v)
 
 unfoldable pub windowIfSum : Node → ℕ → ℕ → ℕ → Sum
 unfolding normal windowIfOf outputsBefore outputsAfter output
@@ -183,10 +179,10 @@ asWritten (clause s ls) = []
 asWritten (deletion ss) = []
 
 unfoldable pub definedBy : List Node → Key → List Defined
-unfolding at realRecords asWritten atLeastZero windowOutputs windowIfSum windowOnlyIfSum flatMap neg
+unfolding at realRecords asWritten atLeastZero outputs windowIfSum windowOnlyIfSum flatMap neg
 definedBy t (real n v) = flatMap asWritten (realRecords (at t n) v)
-definedBy t (window-zero n f m) = asWritten (atLeastZero (windowOutputs (at t n) f m))
+definedBy t (window-zero n f m) = asWritten (atLeastZero (outputs (at t n) f m))
 definedBy t (window n f m) =
     flatMap {B = Defined} (λ (v : ℕ). derived (some (windowIfSum (at t n) f m v)) ∷ derived (some (windowOnlyIfSum (at t n) f m v)) ∷ [])
     (range (f + 1) m)
-    ++ asWritten (atLeastZero (map neg (windowOutputs (at t n) f m)))
+    ++ asWritten (atLeastZero (map neg (outputs (at t n) f m)))

@@ -5,8 +5,7 @@ use Prim.Native.Nat.{ℕ, zero, suc, _+_, _-_, _*_}
 use lib.Dec.{eqb}
 use lib.ListN.{length, getD}
 
--- A side (rustsat's NodeCon, a connection to a node): a node, an offset and a limit, 0 for none. Offset 0 with no limit is plain; any other is a
--- window.
+-- A side (rustsat's NodeCon): a node, an offset and a limit, 0 for none. Offset 0 with no limit is plain; any other is a window.
 pub record Side : Type 0 where
   pub node : ℕ
   pub offset : ℕ
@@ -40,6 +39,11 @@ unfoldable pub range : ℕ → ℕ → List ℕ
 range s zero = []
 range s (suc n) = s ∷ range (suc s) n
 
+-- The outputs of the m values above f.
+unfoldable pub outputs : Node → ℕ → ℕ → List ℕ
+unfolding output range
+outputs x f m = map (output x) (range (f + 1) m)
+
 -- ---- sides
 
 -- the limit if set, else n
@@ -58,8 +62,8 @@ unfolding at output
 sideLit t s a = output (at t (s .node)) (s .offset + a)
 
 unfoldable pub sideOutputs : List Node → Side → List ℕ
-unfolding sideLit sideLen range
-sideOutputs t s = map (sideLit t s) (range 1 (sideLen t s))
+unfolding at outputs sideLen
+sideOutputs t s = outputs (at t (s .node)) (s .offset) (sideLen t s)
 
 -- By offset and limit: the first where the side is plain, the second where it is a window.
 unfoldable pub plainOr : {A : Type 0} → ℕ → ℕ → A → A → A

@@ -15,7 +15,7 @@ use Rattle.pb.specs.Sum.{neg}
 use Rattle.memo.proofs.Lists.{flatMap-append}
 use Rattle.record.specs.Record.{Record, derivation, clause, tokenNumbers, steps, deletion, numbers, sum, termNumbers, bytes, decodeLog}
 use Rattle.record.proofs.Decode.{Small, decode-bytes}
-use Rattle.totdb.specs.Nodes.{Node, len, leaf, Side, join, output, leaves, at, sideLen, sideLit, sideOutputs, range, plainOr, sideLeaves, known, joined}
+use Rattle.totdb.specs.Nodes.{Node, len, leaf, Side, join, output, leaves, at, sideLen, sideLit, sideOutputs, outputs, range, plainOr, sideLeaves, known, joined}
 use Rattle.cert.specs.Definitions.{Definition, lacking, Direction, oneDef, if, only-if, realDef, stored, real, windowDef, window, longDef, sideDef, definedBy, Key, window-zero, keyRecords}
 use Rattle.cert.specs.Equal.{key-dec}
 use Rattle.cert.specs.Requests.{negPart, posPart, Clause, Request, clausesOf, clausesAt, request, ifClause, splits, onlyIfClause, clauseTokens}
@@ -47,16 +47,11 @@ module _ (h : Head) (s : State) (p : Sound h s) where
       node-low (at (s .nodes) n) i (s .next-variable) a b (λ m e. omega (arith, p .numbered .leaf-low n m l e, p .high))
       (λ ls o c d e. p .after n ls o c d l e)
 
-  side-low : (t : Side) → t .node < length (s .nodes) → t .offset + sideLen (s .nodes) t ≤ len (at (s .nodes) (t .node)) → (i : ℕ) → 1 ≤ i
-      → i ≤ sideLen (s .nodes) t → sideLit (s .nodes) t i < 2 * s .next-variable
-  unfolding sideLit
-  side-low t l f i a b = output-low (t .node) (t .offset + i) l (omega arith) (omega arith)
-
   outputs-low : (t : Side) → t .node < length (s .nodes) → t .offset + sideLen (s .nodes) t ≤ len (at (s .nodes) (t .node))
       → AllBelow (2 * s .next-variable) (sideOutputs (s .nodes) t)
-  unfolding sideOutputs
-  outputs-low t l f = below-map (2 * s .next-variable) (sideLit (s .nodes) t) (range 1 (sideLen (s .nodes) t))
-      (λ i m. let k = range-mem 1 (sideLen (s .nodes) t) i m in side-low t l f i (k .0) (omega (arith, k .1)))
+  unfolding sideOutputs outputs
+  outputs-low t l f = below-map (2 * s .next-variable) (output (at (s .nodes) (t .node))) (range (t .offset + 1) (sideLen (s .nodes) t))
+      (λ i m. let k = range-mem (t .offset + 1) (sideLen (s .nodes) t) i m in output-low (t .node) i l (omega (arith, k .0)) (omega (arith, k .1)))
 
   either-low : (f k : ℕ) (ls os : List ℕ) → AllBelow (2 * s .next-variable) ls → AllBelow (2 * s .next-variable) os
       → AllBelow (2 * s .next-variable) (plainOr f k ls os)

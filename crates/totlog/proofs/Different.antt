@@ -11,7 +11,7 @@ use lib.Dec.{ltb}
 use lib.ListN.{length}
 use Rattle.pb.specs.Sum.{variable, neg}
 use Rattle.pb.proofs.Terms.{same-variable}
-use Rattle.totdb.specs.Nodes.{Node, len, at, output, leaf, taken, leaves, Side, join, range, isOver, sideLeaves, sideLen, sideOutputs, sideLit, plainOr, known, leafCount, joined}
+use Rattle.totdb.specs.Nodes.{Node, len, at, output, leaf, taken, leaves, Side, join, range, isOver, sideLeaves, sideLen, sideOutputs, outputs, plainOr, known, leafCount, joined}
 use Rattle.cert.specs.State.{State, requests, Head}
 use Rattle.cert.proofs.Apart.{range-mem, sized-ok}
 use Rattle.cert.proofs.Distinct.{Different, different-append, LeftApart, Owner, Distinct, true≢false, or-left, or-right, owner-apart, old, distinct-snoc, shifted, higher}
@@ -45,9 +45,10 @@ module _ (h : Head) (s : State) (p : Sound h s) (d : Distinct (s .nodes)) (l r :
           → List·Memᴰ x (leaves (at (s .nodes) (c .node))) ⊎
           ((i : ℕ) × (1 ≤ i) × (i ≤ len (at (s .nodes) (c .node))) × (x ≡ output (at (s .nodes) (c .node)) i))
       out m =
-          let q = Memᴰ·of-map (sideLit (s .nodes) c) (range 1 (sideLen (s .nodes) c)) (unfold sideOutputs in m) in
-          let k = range-mem 1 (sideLen (s .nodes) c) (q .0) (q .1) in
-          inr (c .offset + q .0, omega (arith, k), omega (arith, k), sym (q .2) ∙ (unfold sideLit in refl))
+          let q =
+          Memᴰ·of-map (output (at (s .nodes) (c .node))) (range (c .offset + 1) (sideLen (s .nodes) c)) (unfold sideOutputs outputs in m) in
+          let k = range-mem (c .offset + 1) (sideLen (s .nodes) c) (q .0) (q .1) in
+          inr (q .0, omega (arith, k), omega (arith, k), sym (q .2))
 
       by : (o k : ℕ) → List·Memᴰ x (plainOr o k (leaves (at (s .nodes) (c .node))) (sideOutputs (s .nodes) c))
           → List·Memᴰ x (leaves (at (s .nodes) (c .node))) ⊎
@@ -75,7 +76,7 @@ module _ (h : Head) (s : State) (p : Sound h s) (d : Distinct (s .nodes)) (l r :
   side-different c hc g = by (c .offset) (c .limit)
     where
       out : Different (sideOutputs (s .nodes) c)
-      out = unfold sideOutputs sideLit in shifted (at (s .nodes) (c .node)) (c .offset) (sideLen (s .nodes) c) g
+      out = unfold sideOutputs in shifted (at (s .nodes) (c .node)) (c .offset) (sideLen (s .nodes) c) g
 
       by : (o k : ℕ) → Different (plainOr o k (leaves (at (s .nodes) (c .node))) (sideOutputs (s .nodes) c))
       by zero zero = unfold plainOr in d .within (c .node) hc

@@ -10,7 +10,7 @@ use lib.Dec.{T, leb, ltb, eqb, eqb-refl}
 use lib.ListN.{length, length-append, length-map}
 use Rattle.pb.specs.Sum.{variable}
 use Rattle.memo.proofs.Lists.{not-mem}
-use Rattle.totdb.specs.Nodes.{Node, any, at, range, limited, plainOr, Side, sideLeaves, sideLen, sideOutputs, len, leaves, sideLit, join, known, leaf, leafOf, taken, joined}
+use Rattle.totdb.specs.Nodes.{Node, any, at, range, limited, plainOr, Side, sideLeaves, sideLen, sideOutputs, outputs, output, len, leaves, join, known, leaf, leafOf, taken, joined}
 use Rattle.cert.specs.Definitions.{if, only-if, Direction}
 use Rattle.cert.specs.Requests.{Request, nodeOf, request}
 use Rattle.cert.specs.State.{State, start, requests, directions, serve, define, write, hold, Head}
@@ -69,10 +69,10 @@ plainOr-length (suc f) k ls os e = e
 
 -- A side's literals are as many as its length.
 pub sideLeaves-length : (t : List Node) (s : Side) → length (sideLeaves t s) ≡ sideLen t s
-unfolding sideLeaves sideLen sideOutputs len
+unfolding sideLeaves sideLen sideOutputs outputs len
 sideLeaves-length t s =
     plainOr-length (s .offset) (s .limit) (leaves (at t (s .node))) (sideOutputs t s)
-    (length-map (range 1 (sideLen t s)) (sideLit t s) ∙ length-range 1 (sideLen t s))
+    (length-map (range (s .offset + 1) (sideLen t s)) (output (at t (s .node))) ∙ length-range (s .offset + 1) (sideLen t s))
 
 limited-fits : (f k n : ℕ) → f < n → k ≤ n - f → f + limited k (n - f) ≤ n
 unfolding limited

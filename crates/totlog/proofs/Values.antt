@@ -13,8 +13,8 @@ use Rattle.pb.specs.Sum.{Term, _·_, neg, units}
 use Rattle.memo.proofs.Lists.{map-twice, flatMap-append}
 use Rattle.record.specs.Record.{Record, termNumbers, tokenNumbers, sum, derivation, clause, deletion, numbers, bytes}
 use Rattle.record.proofs.Decode.{Small}
-use Rattle.totdb.specs.Nodes.{Node, leaves, len, output, range, at}
-use Rattle.cert.specs.Definitions.{atLeastZero, realIf, realOnlyIf, realRecords, addSequence, total, Definition, nothing, axiom-of, stored, lacking, Key, ifPart, real, onlyIfPart, windowIf, windowOnlyIf, windowOutputs, keyRecords, window-zero, window}
+use Rattle.totdb.specs.Nodes.{Node, leaves, len, output, range, at, outputs}
+use Rattle.cert.specs.Definitions.{atLeastZero, realIf, realOnlyIf, realRecords, addSequence, total, Definition, nothing, axiom-of, stored, lacking, Key, ifPart, real, onlyIfPart, windowIf, windowOnlyIf, keyRecords, window-zero, window}
 use Rattle.cert.specs.Requests.{defTokens, Clause, clauseTokens}
 use Rattle.cert.proofs.Apart.{range-mem}
 use Rattle.cert.proofs.Fits.{KeyFits}
@@ -283,12 +283,12 @@ module _ (b : ℕ) (at-step : Key → ℕ → ℕ) (low-steps : (k : Key) (i : �
         (λ s i. let k = inside s i in onlyIfPart-below n x v s p (hv .0) (hv .1) (k .0) (k .1)))
         (windows-below vs (λ u i. h u (List·Memᴰ·tail i))))
 
-    outputs-below : AllBelow b (windowOutputs x f m)
-    unfolding windowOutputs
+    outputs-below : AllBelow b (outputs x f m)
+    unfolding outputs
     outputs-below = below-map b (output x) (range (f + 1) m) (λ v i. let k = inside v i in omega (arith, p .outs v (k .0) (k .1)))
 
-    negs-below : AllBelow b (map neg (windowOutputs x f m))
-    unfolding windowOutputs
+    negs-below : AllBelow b (map neg (outputs x f m))
+    unfolding outputs
     negs-below = subst (AllBelow b) (sym (map-twice (output x) neg (range (f + 1) m)))
         (below-map b (λ (v : ℕ). neg (output x v)) (range (f + 1) m) (λ v i. let k = inside v i in omega (arith, p .outs v (k .0) (k .1))))
 
@@ -297,16 +297,16 @@ module _ (b : ℕ) (at-step : Key → ℕ → ℕ) (low-steps : (k : Key) (i : �
   unfolding keyRecords KeyFits
   keyRecords-below t low (real n v) g = realRecords-below b (at t n) v (low n (g .0))
   keyRecords-below t low (window-zero n f m) g =
-      one-record b (atLeastZero (windowOutputs (at t n) f m))
-      (zero-below b (windowOutputs (at t n) f m) (omega arith) (outputs-below n (at t n) f m (low n (g .0)) (g .1)))
+      one-record b (atLeastZero (outputs (at t n) f m))
+      (zero-below b (outputs (at t n) f m) (omega arith) (outputs-below n (at t n) f m (low n (g .0)) (g .1)))
   keyRecords-below t low (window n f m) g =
       subst (AllBelow b) (sym
       (flatMap-append values
       (flatMap {B = Record} (λ (v : ℕ). windowIf at-step n (at t n) f m v ∷ windowOnlyIf at-step n (at t n) f m v ∷ []) (range (f + 1) m))
-      (atLeastZero (map neg (windowOutputs (at t n) f m)) ∷ [])))
+      (atLeastZero (map neg (outputs (at t n) f m)) ∷ [])))
       (below-append b _ _ (windows-below n (at t n) f m (low n (g .0)) (g .1) (range (f + 1) m) (inside n (at t n) f m (low n (g .0)) (g .1)))
-      (one-record b (atLeastZero (map neg (windowOutputs (at t n) f m)))
-      (zero-below b (map neg (windowOutputs (at t n) f m)) (omega arith) (negs-below n (at t n) f m (low n (g .0)) (g .1)))))
+      (one-record b (atLeastZero (map neg (outputs (at t n) f m)))
+      (zero-below b (map neg (outputs (at t n) f m)) (omega arith) (negs-below n (at t n) f m (low n (g .0)) (g .1)))))
 
   defTokens-below : (d : Definition) → DefLow b d → TokensBelow b (defTokens at-step d)
   unfolding defTokens DefLow
