@@ -9,7 +9,7 @@ use Rattle.totlog.specs.Player.{Result, accepted, refused, play, Outcome, outco
 use Rattle.totlog.specs.Script.{Command, Commands, script, readScript}
 use Rattle.totlog.proofs.Numbers.{script-most, plays-most}
 use Rattle.totlog.proofs.Refusal.{outcome-number, outcome-place, plays-done, plays-ended, plays-accepted, plays-refused, padded, refusal}
-use Rattle.totlog.proofs.Scripts.{head-number, Way, too-long, no-head, bad-head, commands, way, accepted-reads}
+use Rattle.totlog.proofs.Scripts.{head-number, Way, too-long, no-head, bad-head, commands, way, accepted-reads, passes-is}
 use Rattle.demands.specs.Demands.{Holds, Ends, finished, head-refused, command-refused, Demand1}
 use Rattle.demands.proofs.Holds.{outcome-holds, holds}
 
@@ -35,7 +35,7 @@ module _ (bs : List ℕ) (capacity : ℕ) where
   unfolding refusedAtHead outcome start bytes decodeLog
   at-head n l z = (
     head-refused (let e = ap (λ (o : Outcome). o .number) z ∙ head-number capacity (suc n) in (omega arith, omega arith)) (ap (λ (o : Outcome). o .place) z)
-        (ap (λ (o : Outcome). o .used) z),
+        (ap (λ (o : Outcome). o .used) z) (ap (λ (o : Outcome). o .nodes) z),
     ([], subst (λ (o : Outcome). Holds o []) (sym z) (outcome-holds capacity (suc n) 0 (start (record { variable = 0; step = 0 })) refl)),
   )
 
@@ -48,8 +48,8 @@ module _ (bs : List ℕ) (capacity : ℕ) where
       → Ends bs capacity × ((rs : List Record) × Holds (played bs capacity) rs)
   at-command h cs r z zero e =
       let a = accepted-reads bs capacity e in
-      let k = a .3 in (
-        finished (a .0) (a .1) (a .2) (k .to-end) e (rw (k .is) (outcome-place capacity 0 _ (k .state))),
+      let k = a .2 in (
+        finished (a .0) (a .1) k e (rw (passes-is k) (outcome-place capacity 0 _ (k .state))),
         (k .state .log, holds bs capacity (a .0) (a .1) k),
       )
   at-command h cs r z (suc n) e =
@@ -58,12 +58,12 @@ module _ (bs : List ℕ) (capacity : ℕ) where
       let c = refusal capacity bs n (q .0) e f in
       let g : played (c .0) capacity .number ≡ 0 = ap (λ (o : Outcome). o .number) (c .3) ∙ (unfold unrefused in refl) in
       let a = accepted-reads (c .0) capacity g in
-      let k = holds (c .0) capacity (a .0) (a .1) (a .3) in (
+      let k = holds (c .0) capacity (a .0) (a .1) (a .2) in (
         command-refused (q .0) (c .0) (c .1) (omega arith, rw z (plays-most h capacity (cs .ending) (cs .list) 0 (start h) (script-most bs h cs r))) f (c .2) (c .3),
         (
-          a .3 .state .log,
-          unrefused-holds (q .0) (played bs capacity) (a .3 .state .log)
-              (subst (λ (o : Outcome). Holds o (a .3 .state .log)) (c .3) k),
+          a .2 .state .log,
+          unrefused-holds (q .0) (played bs capacity) (a .2 .state .log)
+              (subst (λ (o : Outcome). Holds o (a .2 .state .log)) (c .3) k),
         ),
       )
 

@@ -1,22 +1,28 @@
--- Demand 2: an accepted log's clauses are the totalizer's, each derivation comes to its clause or window definition, and each sum is a definition's.
-use mathlib.Core.Path.{_≡_, _∙_}
-use mathlib.Core.List.{List}
-use Prim.Native.Nat.{ℕ}
+-- Demand 2: a script that passes every question has a log; its clauses are the totalizer's, each derivation comes to its clause or window definition,
+-- and each sum is a definition's.
+use mathlib.Core.Path.{_≡_, sym, _∙_, ap, subst}
+use mathlib.Core.List.{List, flatMap}
+use Prim.Native.Nat.{ℕ, _+_}
+use lib.ListN.{length}
 use Rattle.memo.proofs.Lists.{flatMap-agree}
+use Rattle.record.specs.Record.{clauses}
+use Rattle.record.specs.Steps.{defined}
 use Rattle.totdb.specs.Nodes.{Node}
+use Rattle.cert.specs.Definitions.{definedBy}
 use Rattle.cert.specs.Requests.{Request, request, literalsOf}
 use Rattle.cert.specs.State.{Head, State, start, keys}
 use Rattle.cert.specs.Totalizer.{totalizer}
 use Rattle.cert.proofs.Apart.{Right}
 use Rattle.cert.proofs.Schema.{clauses-schema}
 use Rattle.totlog.specs.Called.{table}
+use Rattle.totlog.specs.Passes.{AllPassed}
 use Rattle.totlog.specs.Script.{Command}
 use Rattle.totlog.proofs.ClauseSteps.{clause-steps}
-use Rattle.totlog.proofs.Matching.{held-from, held-has, held-once, held-right, held-clauses, keys-from, keys-has, keys-once}
-use Rattle.totlog.proofs.Runs.{AllPassed}
-use Rattle.totlog.proofs.Scripts.{accepted-script}
+use Rattle.totlog.proofs.Defines.{defines-exactly}
+use Rattle.totlog.proofs.Matching.{held-from, held-has, held-once, held-right, held-clauses, keys-from, keys-has, keys-once, nodes-table, steps-count}
+use Rattle.totlog.proofs.Refusal.{outcome-number}
+use Rattle.totlog.proofs.Scripts.{passes-is}
 use Rattle.demands.specs.Demands.{Proved, Demand2}
-use Rattle.demands.proofs.Demand3.{sums-are}
 use Rattle.demands.proofs.Holds.{holds}
 
 as-schema : (t : List Node) (x : Request) → Right t x → literalsOf t x ≡ totalizer t x
@@ -24,7 +30,13 @@ unfolding Right
 as-schema t (request n v d) r = clauses-schema t n v d (r .1) (r .2)
 
 module _ (h : Head) (capacity : ℕ) (cs : List Command) (u : State) (a : AllPassed h capacity cs (start h) u) where
-  proved : Proved h cs (u .log)
+  -- The sums that the log defines are those of the keys stored.
+  pub sums-are : defined (h .step) (u .log) ≡ flatMap (definedBy (table h cs)) (keys u)
+  sums-are =
+      subst (λ (t : List Node). defined (h .step) (u .log) ≡ flatMap (definedBy t) (keys u)) (nodes-table h capacity cs u a)
+      (defines-exactly h capacity cs u a)
+
+  pub proved : Proved h cs (u .log)
   proved = record {
     served = u .held;
     served-once = held-once h capacity cs u a;
@@ -36,11 +48,13 @@ module _ (h : Head) (capacity : ℕ) (cs : List Command) (u : State) (a : AllPas
     stored = keys u;
     stored-once = keys-once h capacity cs u a;
     stored-are = λ k. (keys-from h capacity cs u a k, keys-has h capacity cs u a k);
-    definitions = sums-are h capacity cs u a;
+    definitions = sums-are;
+    steps-split = steps-count h capacity cs u a ∙ ap (λ (n : ℕ). n + length (clauses (u .log))) (ap length (sym sums-are));
   }
 
 pub demand-2 : Demand2
 unfolding Demand2
-demand-2 bs capacity h cs r e =
-    let a = accepted-script bs capacity h cs r e in
-    (a .state .log, holds bs capacity h cs a, proved h capacity (cs .list) (a .state) (a .all))
+demand-2 bs capacity h cs a = (
+  rw (passes-is a) (outcome-number capacity 0 (length (cs .list)) (a .state)),
+  (a .state .log, holds bs capacity h cs a, proved h capacity (cs .list) (a .state) (a .all)),
+)

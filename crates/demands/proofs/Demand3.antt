@@ -1,44 +1,30 @@
 -- Demand 3: two scripts alike write the same clauses, each once, and the same sums; and these are the ones that the scripts call for.
-use mathlib.Core.Path.{_≡_, sym, _∙_, ap, subst}
+use mathlib.Core.Path.{sym, _∙_, ap, subst}
 use mathlib.Core.List.{List, flatMap, Perm, Perm·refl, Perm·trans, Perm·symm}
-use Prim.Native.Nat.{ℕ, _+_}
+use Prim.Native.Nat.{ℕ}
 use lib.ListN.{length}
 use Rattle.memo.proofs.Lists.{length-perm}
-use Rattle.record.specs.Record.{steps, clauses}
 use Rattle.record.specs.Steps.{defined}
-use Rattle.totdb.specs.Nodes.{Node}
 use Rattle.cert.specs.Definitions.{definedBy}
 use Rattle.cert.specs.State.{State, start, keys, Head}
 use Rattle.totlog.specs.Called.{table}
+use Rattle.totlog.specs.Passes.{AllPassed}
 use Rattle.totlog.specs.Script.{Command}
-use Rattle.totlog.proofs.Defines.{defines-exactly}
-use Rattle.totlog.proofs.Matching.{nodes-table, clauses-from, clauses-has, clauses-once, keys-from, keys-has, keys-once, steps-count, same-table, same-clauses, same-sums, same-steps}
-use Rattle.totlog.proofs.Runs.{AllPassed}
+use Rattle.totlog.proofs.Matching.{clauses-from, clauses-has, clauses-once, same-table, same-clauses, same-sums, same-steps}
 use Rattle.totlog.proofs.Scripts.{accepted-script}
 use Rattle.demands.specs.Demands.{Listed, Demand3}
+use Rattle.demands.proofs.Demand2.{sums-are, proved}
 use Rattle.demands.proofs.Holds.{holds, nodes-are}
 
 module _ (h : Head) (capacity : ℕ) (cs : List Command) (u : State) (a : AllPassed h capacity cs (start h) u) where
-  -- The sums that the log defines are those of the keys stored.
-  pub sums-are : defined (h .step) (u .log) ≡ flatMap (definedBy (table h cs)) (keys u)
-  sums-are =
-      subst (λ (t : List Node). defined (h .step) (u .log) ≡ flatMap (definedBy t) (keys u)) (nodes-table h capacity cs u a)
-      (defines-exactly h capacity cs u a)
-
   sums-of : Perm (defined (h .step) (u .log)) (flatMap (definedBy (table h cs)) (keys u))
-  sums-of = subst (Perm (defined (h .step) (u .log))) sums-are (Perm·refl (defined (h .step) (u .log)))
+  sums-of = subst (Perm (defined (h .step) (u .log))) (sums-are h capacity cs u a) (Perm·refl (defined (h .step) (u .log)))
 
   listed-of : Listed h cs (u .log)
   listed-of = record {
     clauses-listed = λ c. (clauses-from h capacity cs u a c, clauses-has h capacity cs u a c);
-    listed = keys u;
-    listed-once = keys-once h capacity cs u a;
-    keys-listed = λ k. (keys-from h capacity cs u a k, keys-has h capacity cs u a k);
-    sums-listed = sums-of;
+    sums-listed = proved h capacity cs u a;
   }
-
-  split : steps (u .log) ≡ length (defined (h .step) (u .log)) + length (clauses (u .log))
-  split = steps-count h capacity cs u a ∙ ap (λ (n : ℕ). n + length (clauses (u .log))) (sym (length-perm sums-of))
 
 pub demand-3 : Demand3
 unfolding Demand3
@@ -66,7 +52,10 @@ demand-3 bs ds c d h cs es k =
           p .clauses-are ∙ length-perm same-c ∙ sym (q .clauses-are),
           nodes-are bs c h cs a ∙ ap length (sym table-same) ∙ sym (nodes-are ds d h es b),
         );
-        steps-split = (p .steps-are ∙ split h c (cs .list) u (a .all), q .steps-are ∙ split h d (es .list) w (b .all));
+        steps-split = (
+          p .steps-are ∙ proved h c (cs .list) u (a .all) .steps-split,
+          q .steps-are ∙ proved h d (es .list) w (b .all) .steps-split,
+        );
       },
       listed-of h c (cs .list) u (a .all),
       listed-of h d (es .list) w (b .all),

@@ -8,11 +8,12 @@ use lib.Seq.{take-append-seam}
 use Rattle.record.specs.Record.{bytes, decodeLog}
 use Rattle.cert.specs.State.{Head, State}
 use Rattle.totlog.specs.Called.{table}
+use Rattle.totlog.specs.Passes.{Passes}
 use Rattle.totlog.specs.Player.{Outcome, outcome, played}
 use Rattle.totlog.specs.Script.{Commands}
 use Rattle.totlog.proofs.Decoded.{log-decodes}
 use Rattle.totlog.proofs.Matching.{nodes-table}
-use Rattle.totlog.proofs.Scripts.{Accepted}
+use Rattle.totlog.proofs.Scripts.{passes-is}
 use Rattle.demands.specs.Demands.{Holds}
 
 pub outcome-holds : (capacity n p : ℕ) (s : State) → decodeLog (bytes (s .log)) ≡ some (s .log) → Holds (outcome capacity n p s) (s .log)
@@ -23,9 +24,9 @@ outcome-holds capacity n p s e = record {
   clauses-are = refl;
 }
 
-module _ (bs : List ℕ) (capacity : ℕ) (h : Head) (cs : Commands) (a : Accepted bs capacity h cs) where
+module _ (bs : List ℕ) (capacity : ℕ) (h : Head) (cs : Commands) (a : Passes bs capacity h cs) where
   pub holds : Holds (played bs capacity) (a .state .log)
-  holds = rw (a .is) (outcome-holds capacity 0 (length (cs .list)) (a .state) (log-decodes (a .fits) (a .small) (a .all)))
+  holds = rw (passes-is a) (outcome-holds capacity 0 (length (cs .list)) (a .state) (log-decodes (a .fits) (a .small) (a .all)))
 
   pub nodes-are : played bs capacity .nodes ≡ length (table h (cs .list))
-  nodes-are = ap (λ (o : Outcome). o .nodes) (a .is) ∙ (unfold outcome in ap length (nodes-table h capacity (cs .list) (a .state) (a .all)))
+  nodes-are = ap (λ (o : Outcome). o .nodes) (passes-is a) ∙ (unfold outcome in ap length (nodes-table h capacity (cs .list) (a .state) (a .all)))

@@ -13,6 +13,7 @@ use Rattle.cert.specs.Requests.{Request}
 use Rattle.cert.specs.State.{Head}
 use Rattle.cert.specs.Totalizer.{totalizer}
 use Rattle.totlog.specs.Called.{makes, asked, table, Closure, Called, KeyCalled}
+use Rattle.totlog.specs.Passes.{Passes}
 use Rattle.totlog.specs.Player.{Outcome, Padded, unrefused, played}
 use Rattle.totlog.specs.Script.{Command, Commands, script, readScript}
 
@@ -26,18 +27,20 @@ pub record Holds (o : Outcome) (rs : List Record) : Type 0 where
 
 -- ---- demand 1
 -- "Every script of bytes ends in a finished log, or in one refusal number and the command it fell on; nothing outside the lent memory is touched,
--- and the log holds exactly the records of the commands before the refused one, then zeros."
+-- and the log holds exactly the records of the commands before the refused one, then zeros." (Which memory is touched is a matter of the
+-- code, not of these definitions.)
 
 -- One refusal number, that of a question.
 abbrev pub Refused : Outcome → Type 0
 Refused o = (1 ≤ o .number) × (o .number ≤ 14)
 
--- The script ran to its end; or its head was refused and nothing was written; or the command at place q + 1 was refused, and all but number and
--- place is as for the script cut before that command.
+-- The script passes every question and ran to its end; or its head was refused, and nothing was made or written; or the command at place q + 1 was
+-- refused, and all but number and place is as for the script cut before that command.
 pub data Ends (bs : List ℕ) (capacity : ℕ) : Type 0 where
-  finished : (h : Head) (cs : Commands) → readScript bs ≡ script h cs → cs .ending ≡ 0 → played bs capacity .number ≡ 0
+  finished : (h : Head) (cs : Commands) → Passes bs capacity h cs → played bs capacity .number ≡ 0
       → played bs capacity .place ≡ length (cs .list) → Ends bs capacity
-  head-refused : Refused (played bs capacity) → played bs capacity .place ≡ 0 → played bs capacity .used ≡ 0 → Ends bs capacity
+  head-refused : Refused (played bs capacity) → played bs capacity .place ≡ 0 → played bs capacity .used ≡ 0 → played bs capacity .nodes ≡ 0
+      → Ends bs capacity
   command-refused : (q : ℕ) (pre suf : List ℕ) → Refused (played bs capacity) → played bs capacity .place ≡ suc q → bs ≡ pre ++ suf
       → played pre capacity ≡ unrefused q (played bs capacity) → Ends bs capacity
 
@@ -48,7 +51,7 @@ Demand1 = (bs : List ℕ) (capacity : ℕ) → Ends bs capacity × Padded capaci
 -- ---- demand 2
 -- "For every script that passes document 01's questions, the log equals what the Rust records for the same commands; its clauses are those of the
 -- totalizer of Bailleux and Boufkhad, and each derivation, worked out by the cutting-planes rules, comes to exactly the clause or window definition it is
--- written for." (That the log equals what the Rust records is compared by running both.)
+-- written for." (That the log equals what the Rust records is not stated here: crate `recorded` holds `played` to answers recorded from the Rust.)
 
 -- The records of an accepted script: `served` are its requests and all they need below, `stored` the definitions that their clauses look up, each
 -- once.
@@ -58,18 +61,20 @@ pub record Proved (h : Head) (cs : List Command) (rs : List Record) : Type 0 whe
   pub served-are : (x : Request) → (List·Memᴰ x served → Closure h cs x) × (Closure h cs x → List·Memᴰ x served)
   -- the clauses are the totalizer's, for each request served
   pub clauses-are : clauses rs ≡ flatMap (totalizer (table h cs)) served
-  -- the derivation that a clause record names comes to its clause
+  -- the step that a clause record names comes to its clause
   pub clause-steps : (n : ℕ) (ls : List ℕ) → List·Memᴰ (Record.clause n ls) rs → stepOf (h .step) rs n ≡ some (normal (clauseSum ls))
   pub stored : List Key
   pub stored-once : List·Nodup stored
   pub stored-are : (k : Key) → (List·Memᴰ k stored → KeyCalled h cs k) × (KeyCalled h cs k → List·Memᴰ k stored)
   -- every sum, and what every other derivation comes to, is the definition it is written for
   pub definitions : defined (h .step) rs ≡ flatMap (definedBy (table h cs)) stored
+  -- and there are no further steps
+  pub steps-split : steps rs ≡ length (defined (h .step) rs) + length (clauses rs)
 
 unfoldable pub Demand2 : Type 0
 Demand2 =
-    (bs : List ℕ) (capacity : ℕ) (h : Head) (cs : Commands) → readScript bs ≡ script h cs → played bs capacity .number ≡ 0
-    → (rs : List Record) × Holds (played bs capacity) rs × Proved h (cs .list) rs
+    (bs : List ℕ) (capacity : ℕ) (h : Head) (cs : Commands) → Passes bs capacity h cs
+    → (played bs capacity .number ≡ 0) × ((rs : List Record) × Holds (played bs capacity) rs × Proved h (cs .list) rs)
 
 -- ---- demand 3
 -- "For every two accepted scripts, lists of leaf, join, request and close commands, with one head and the same leaf and join commands in the same order,
@@ -92,13 +97,10 @@ pub record Matching (h : Head) (o p : Outcome) (rs qs : List Record) : Type 0 wh
   pub steps-split : (o .steps ≡ length (defined (h .step) rs) + length (clauses rs))
       × (p .steps ≡ length (defined (h .step) qs) + length (clauses qs))
 
--- The clauses are those that the script calls for. The sums are those of the keys called for, each key once.
+-- The clauses are those that the script calls for; the sums are those of the keys called for, as demand 2 has them.
 pub record Listed (h : Head) (cs : List Command) (rs : List Record) : Type 0 where
   pub clauses-listed : (c : List ℕ) → (List·Memᴰ c (clauses rs) → Called h cs c) × (Called h cs c → List·Memᴰ c (clauses rs))
-  pub listed : List Key
-  pub listed-once : List·Nodup listed
-  pub keys-listed : (k : Key) → (List·Memᴰ k listed → KeyCalled h cs k) × (KeyCalled h cs k → List·Memᴰ k listed)
-  pub sums-listed : Perm (defined (h .step) rs) (flatMap (definedBy (table h cs)) listed)
+  pub sums-listed : Proved h cs rs
 
 unfoldable pub Demand3 : Type 0
 Demand3 =

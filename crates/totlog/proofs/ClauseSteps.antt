@@ -29,11 +29,11 @@ use Rattle.cert.proofs.Serving.{define-keys, key-no-clauses, Asked, serve-keeps
 use Rattle.cert.proofs.SideTokens.{node-off, side-only, side-if}
 use Rattle.cert.proofs.Totalizer.{real-if, real-only-if}
 use Rattle.cert.proofs.WindowDerivations.{real-if-clean, real-only-clean}
+use Rattle.totlog.specs.Passes.{AllPassed}
 use Rattle.totlog.specs.Player.{make, delete, storedSteps, firstNo, questions, act}
 use Rattle.totlog.specs.Script.{Command}
 use Rattle.totlog.proofs.Counts.{all-keep}
 use Rattle.totlog.proofs.Defines.{Told, told-start, told-act, step-known, known-after, known-length}
-use Rattle.totlog.proofs.Runs.{AllPassed}
 use Rattle.totlog.proofs.Sound.{Sound, sideLeaves-length, request-fits, requests-asked, requests-right, sound-start}
 
 -- ---- the second part of a list

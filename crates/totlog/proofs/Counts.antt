@@ -14,9 +14,9 @@ use Rattle.cert.proofs.Apart.{sized-ok}
 use Rattle.cert.proofs.Counts.{steps-append, defined-more, CountedIn, Counted, counted-start, counted-serve}
 use Rattle.cert.proofs.Rules.{KeyIn}
 use Rattle.cert.proofs.Serving.{clauses-append}
+use Rattle.totlog.specs.Passes.{AllPassed, all-done, all-more}
 use Rattle.totlog.specs.Player.{make, delete, storedSteps, firstNo, questions, act}
 use Rattle.totlog.specs.Script.{Command}
-use Rattle.totlog.proofs.Runs.{AllPassed, all-done, all-more}
 use Rattle.totlog.proofs.Sound.{Sound, requests-asked, request-fits, serve-nodes, sound-act, sound-start}
 
 key-more : (t u : List Node) (k : Key) → KeyIn t k → KeyIn (t ++ u) k

@@ -24,11 +24,11 @@ use Rattle.cert.proofs.Apart.{range-mem, Sized, Fit, Right, splits-mem, sized-o
 use Rattle.cert.proofs.Counts.{key-count, Counted, counted-start, defined-more}
 use Rattle.cert.proofs.Fits.{KeyFits, request-falls, key-falls, looked-fit}
 use Rattle.cert.proofs.Serving.{serve-keeps, Asked}
+use Rattle.totlog.specs.Passes.{AllPassed, all-done, all-more}
 use Rattle.totlog.specs.Player.{make, storedSteps, delete, firstNo, questions, act, headFits}
 use Rattle.totlog.specs.Script.{Command}
 use Rattle.totlog.proofs.Counts.{counted-act, all-keep}
 use Rattle.totlog.proofs.Refusal.{and-true, start-empty}
-use Rattle.totlog.proofs.Runs.{AllPassed, all-done, all-more}
 use Rattle.totlog.proofs.Sound.{Sound, request-fits, requests-asked, serve-nodes, requests-right, sound-start}
 use Rattle.totlog.proofs.Tree.{Treed, treed-start, few-variables, treed-act}
 use Rattle.totlog.proofs.Values.{AllBelow, below-map, below-append, below-at, LowNode, below-mono, DefLow, values, keyRecords-below, clauseTokens-below, numbers-bytes, log-small}

@@ -26,11 +26,11 @@ use Rattle.cert.proofs.Distinct.{Distinct, distinct-nil}
 use Rattle.cert.proofs.Fits.{KeyFits, request-falls, key-falls, looked-fit}
 use Rattle.cert.proofs.Known.{sumOf, knownOf, KnownIn, sums-length, sums-grow, sums-append, known-define, key-sums, known-more, Segment}
 use Rattle.cert.proofs.Serving.{define-keys, Asked, serve-keeps}
+use Rattle.totlog.specs.Passes.{AllPassed}
 use Rattle.totlog.specs.Player.{make, firstNo, questions, act, delete, storedSteps}
 use Rattle.totlog.specs.Script.{Command}
 use Rattle.totlog.proofs.Counts.{counted-act, all-keep}
 use Rattle.totlog.proofs.Different.{distinct-act}
-use Rattle.totlog.proofs.Runs.{AllPassed}
 use Rattle.totlog.proofs.Sound.{Sound, request-fits, requests-asked, serve-nodes, requests-right, sound-start}
 
 -- ---- names and definitions over more records

@@ -19,12 +19,12 @@ use Rattle.cert.specs.Requests.{clauseTokens}
 use Rattle.cert.specs.State.{State, start, stepIn, define, write, hold, requests, Head}
 use Rattle.cert.proofs.Apart.{sized-ok}
 use Rattle.cert.proofs.Serving.{serve-in}
-use Rattle.totlog.specs.Player.{firstNo, ask, sideFits, questions, lastQuestions, verdict, make, storedSteps, delete, act, accepted, refused, play, plays, Outcome, outcome, playScript, mostBytes, played}
-use Rattle.totlog.specs.Script.{Command, Commands, script, readScript}
+use Rattle.totlog.specs.Passes.{AllPassed, all-done, all-more, Passes}
+use Rattle.totlog.specs.Player.{firstNo, ask, sideFits, questions, make, storedSteps, delete, act, plays, Outcome, outcome, mostBytes, played}
+use Rattle.totlog.specs.Script.{Command, Commands}
 use Rattle.totlog.proofs.Counts.{all-keep}
-use Rattle.totlog.proofs.Refusal.{Passed, plays-done, plays-accepted, plays-refused, outcome-number, script-true, played-true, start-empty}
-use Rattle.totlog.proofs.Runs.{AllPassed, all-done, all-more}
-use Rattle.totlog.proofs.Scripts.{Accepted, accepted-reads}
+use Rattle.totlog.proofs.Refusal.{play-fits, play-full, plays-done, plays-accepted, plays-refused, outcome-number, start-empty}
+use Rattle.totlog.proofs.Scripts.{accepted-reads, passes-plays, passes-is}
 use Rattle.totlog.proofs.Sound.{Sound, sound-start, sound-act, request-fits, requests-asked}
 
 -- ---- the value of a request
@@ -165,21 +165,6 @@ grown-act n h (Command.request m v d) s q p g =
     (requests m v d) (requests-asked t m v d (request-fits h t m v d q)) s g
 grown-act n h Command.close s q p g = bytes-grow n (s .log) (deletion (storedSteps (s .nodes) (s .stored)) ∷ []) g
 
--- ---- a command that passes, with another capacity
-
-module _ (h : Head) (capacity other : ℕ) (c : Command) (s u : State) (p : Passed h capacity c s u) where
-  play-last : play h other c s ≡ verdict (firstNo (lastQuestions other s u)) u
-  unfolding play
-  play-last = rw (p .asked, play) (rw (p .after))
-
-  play-fits : length (bytes (u .log)) ≤ other → play h other c s ≡ accepted u
-  unfolding lastQuestions firstNo verdict
-  play-fits l = play-last ∙ rw (p .offered, le-leb (length (bytes (u .log))) other l)
-
-  play-full : other < length (bytes (u .log)) → play h other c s ≡ refused 14
-  unfolding lastQuestions firstNo verdict
-  play-full l = play-last ∙ rw (p .offered, lt-leb (length (bytes (u .log))) other l)
-
 -- ---- a run that passes, with another capacity
 
 -- Enough for the whole log is enough for every command.
@@ -241,30 +226,26 @@ unfolding outcome
 outcome-used capacity n p s = refl
 
 module _ (bs : List ℕ) (capacity other : ℕ) (most : other ≤ mostBytes) (accept : played bs capacity .number ≡ 0) where
-  abbrev run : (h : Head) × (cs : Commands) × (readScript bs ≡ script h cs) × Accepted bs capacity h cs
+  abbrev run : (h : Head) × (cs : Commands) × Passes bs capacity h cs
   run = accepted-reads bs capacity accept
 
   other-is : played bs other ≡ plays (run .0) other 0 (run .1 .list) 0 (start (run .0))
-  other-is =
-      let two : (leb (length bs) mostBytes && leb other mostBytes) ≡ true =
-      rw (le-leb (length bs) mostBytes (run .3 .short), le-leb other mostBytes most) in
-      played-true other bs two ∙ ap (playScript other) (run .2) ∙ script-true other (run .0) (run .1) (run .3 .fits)
-      ∙ ap (λ (n : ℕ). plays (run .0) other n (run .1 .list) 0 (start (run .0))) (run .3 .to-end)
+  other-is = passes-plays (run .2) other most
 
-  length-is : played bs capacity .used ≡ length (bytes (run .3 .state .log))
-  length-is = ap (λ (o : Outcome). o .used) (run .3 .is) ∙ outcome-used capacity 0 (length (run .1 .list)) (run .3 .state)
+  length-is : played bs capacity .used ≡ length (bytes (run .2 .state .log))
+  length-is = ap (λ (o : Outcome). o .used) (passes-is (run .2)) ∙ outcome-used capacity 0 (length (run .1 .list)) (run .2 .state)
 
   -- Every log that is long enough gets the same answer.
   pub capacity-enough : played bs capacity .used ≤ other → SameAnswer (played bs capacity) (played bs other)
   capacity-enough l =
-      let e : played bs other ≡ outcome other 0 (length (run .1 .list)) (run .3 .state)
-      = other-is ∙ plays-fits other 0 (run .3 .all) (sound-start (run .0)) (omega (arith, length-is))
-      ∙ ap (λ (n : ℕ). outcome other 0 n (run .3 .state)) (omega arith) in
-      rw (e, run .3 .is) (outcome-same capacity other 0 (length (run .1 .list)) (run .3 .state))
+      let e : played bs other ≡ outcome other 0 (length (run .1 .list)) (run .2 .state)
+      = other-is ∙ plays-fits other 0 (run .2 .all) (sound-start (run .0)) (omega (arith, length-is))
+      ∙ ap (λ (n : ℕ). outcome other 0 n (run .2 .state)) (omega arith) in
+      rw (e, passes-is (run .2)) (outcome-same capacity other 0 (length (run .1 .list)) (run .2 .state))
 
   -- Every shorter one is refused.
   pub capacity-short : other < played bs capacity .used → played bs other .number ≡ 14
-  capacity-short l = rw other-is (plays-full other 0 0 (run .3 .all) (start-empty (run .0) other) (omega (arith, length-is)))
+  capacity-short l = rw other-is (plays-full other 0 0 (run .2 .all) (start-empty (run .0) other) (omega (arith, length-is)))
 
 -- ---- each theorem at numbers that meet its hypotheses
 

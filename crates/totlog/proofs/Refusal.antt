@@ -5,13 +5,14 @@ use mathlib.Core.Bool.{Bool, true, false, _&&_, not as notb}
 use mathlib.Core.List.{List, [], _∷_, _++_, append-assoc}
 use Prim.Native.Nat.{ℕ, zero, suc, _+_, _-_, _≤_, _<_}
 use native.Mathlib.Omega.{arith}
-use borrow.Author.Tests.{not-true}
+use borrow.Author.Tests.{not-true, le-leb, lt-leb}
 use lib.Dec.{leb, leb→le, le→leb, T}
 use lib.ListN.{length, take, drop, replicate, length-append, length-replicate}
 use lib.Seq.{drop-append-seam}
 use Rattle.number.specs.Number.{number, read, Front, bad}
 use Rattle.record.specs.Record.{bytes}
 use Rattle.cert.specs.State.{State, start, Head}
+use Rattle.totlog.specs.Passes.{Passed}
 use Rattle.totlog.specs.Player.{verdict, accepted, refused, firstNo, ask, questions, act, anyLacks, lastQuestions, play, Result, plays, outcome, ended, Outcome, refusedAtHead, headFits, playScript, mostBytes, played, Padded, unrefused}
 use Rattle.totlog.specs.Script.{Command, Commands, script, headless, readScript, Script, readCommands}
 use Rattle.totlog.proofs.Reading.{read-front, commands-cut}
@@ -33,13 +34,6 @@ unfolding firstNo
 two-yes n m true true p q e = (refl, refl)
 two-yes n m true false p q e = absurd (omega arith)
 two-yes n m false b p q e = absurd (omega arith)
-
--- What an accepted command has passed, and the state after it.
-pub record Passed (h : Head) (capacity : ℕ) (c : Command) (s u : State) : Type 0 where
-  pub asked : firstNo (questions h (s .nodes) c) ≡ 0
-  pub after : act c s ≡ u
-  pub offered : anyLacks (u .nodes) (drop (length (s .held)) (u .held)) ≡ false
-  pub fits : length (bytes (u .log)) ≤ capacity
 
 last-passed : (capacity : ℕ) (s u : State) → firstNo (lastQuestions capacity s u) ≡ 0
     → (anyLacks (u .nodes) (drop (length (s .held)) (u .held)) ≡ false) × (length (bytes (u .log)) ≤ capacity)
@@ -66,6 +60,20 @@ play-passed h capacity c s u e = by (firstNo (questions h (s .nodes) c)) refl (u
         let p = verdict-accepted (firstNo (lastQuestions capacity s (act c s))) (act c s) u k in
         let l = last-passed capacity s (act c s) (p .0) in
         record { asked = q; after = p .1; offered = rw (p .1) at (l .0); fits = rw (p .1) at (l .1) }
+
+-- A command that passes, with the same or another capacity.
+module _ (h : Head) (capacity other : ℕ) (c : Command) (s u : State) (p : Passed h capacity c s u) where
+  play-last : play h other c s ≡ verdict (firstNo (lastQuestions other s u)) u
+  unfolding play
+  play-last = rw (p .asked, play) (rw (p .after))
+
+  pub play-fits : length (bytes (u .log)) ≤ other → play h other c s ≡ accepted u
+  unfolding lastQuestions firstNo verdict
+  play-fits l = play-last ∙ rw (p .offered, le-leb (length (bytes (u .log))) other l)
+
+  pub play-full : other < length (bytes (u .log)) → play h other c s ≡ refused 14
+  unfolding lastQuestions firstNo verdict
+  play-full l = play-last ∙ rw (p .offered, lt-leb (length (bytes (u .log))) other l)
 
 pub play-refused : (h : Head) (capacity : ℕ) (c : Command) (s : State) (m : ℕ) → play h capacity c s ≡ refused m → 0 < m
 play-refused h capacity c s m e = by (firstNo (questions h (s .nodes) c)) (unfold play in e)

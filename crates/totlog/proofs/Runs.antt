@@ -19,9 +19,10 @@ use Rattle.cert.proofs.Rules.{counters}
 use Rattle.cert.proofs.Serving.{view, clauses-append, serve-step}
 use Rattle.cert.proofs.Tables.{right-more}
 use Rattle.totlog.specs.Called.{makes, asked, build}
+use Rattle.totlog.specs.Passes.{AllPassed, all-done, all-more}
 use Rattle.totlog.specs.Player.{plays, outcome, play, Result, refused, accepted, make, delete, storedSteps, firstNo, questions, act}
 use Rattle.totlog.specs.Script.{Command}
-use Rattle.totlog.proofs.Refusal.{Passed, plays-done, outcome-number, plays-ended, play-refused, plays-refused, plays-accepted, play-passed}
+use Rattle.totlog.proofs.Refusal.{play-fits, plays-done, outcome-number, plays-ended, play-refused, plays-refused, plays-accepted, play-passed}
 use Rattle.totlog.proofs.Sound.{Sound, RequestFits, requests-asked, serve-nodes, requests-right, request-fits, sound-act}
 
 pub build-makes : (cs : List Command) (t : List Node) (o : ℕ) → build cs t o ≡ build (makes cs) t o
@@ -39,47 +40,35 @@ build-makes (Command.close ∷ cs) t o = build-makes cs t o
 
 -- ---- all commands accepted
 
-pub data AllPassed (h : Head) (capacity : ℕ) : List Command → State → State → Type 0 where
-  all-done : {s : State} → AllPassed h capacity [] s s
-  all-more : {c : Command} {cs : List Command} {s u w : State} → Passed h capacity c s u → AllPassed h capacity cs u w
-      → AllPassed h capacity (c ∷ cs) s w
+pub plays-passed : {h : Head} {capacity : ℕ} {cs : List Command} {s u : State} (p : ℕ) → AllPassed h capacity cs s u
+    → plays h capacity 0 cs p s ≡ outcome capacity 0 (p + length cs) u
+plays-passed {h} {capacity} p (all-done {s}) = plays-done h capacity 0 p s ∙ ap (λ (n : ℕ). outcome capacity 0 n s) (omega arith)
+plays-passed {h} {capacity} p (all-more {c} {cs} {s} {u} {w} q r) =
+    plays-accepted h capacity 0 c cs p s u (play-fits h capacity capacity c s u q (q .fits)) ∙ plays-passed (suc p) r
+    ∙ ap (λ (n : ℕ). outcome capacity 0 n w) (omega arith)
 
--- An outcome without refusal is that of a state after all commands.
-pub record Finished (h : Head) (capacity ending : ℕ) (cs : List Command) (p : ℕ) (s : State) : Type 0 where
+-- Where nothing is refused, all commands passed.
+pub record Finished (h : Head) (capacity ending : ℕ) (cs : List Command) (s : State) : Type 0 where
   pub state : State
   pub all : AllPassed h capacity cs s state
   pub no-ending : ending ≡ 0
-  pub is : plays h capacity ending cs p s ≡ outcome capacity 0 (p + length cs) state
 
 pub plays-finished : (h : Head) (capacity ending : ℕ) (cs : List Command) (p : ℕ) (s : State) → plays h capacity ending cs p s .number ≡ 0
-    → Finished h capacity ending cs p s
-plays-finished h capacity zero [] p s e =
-    record { state = s; all = all-done; no-ending = refl; is = plays-done h capacity 0 p s ∙ ap (λ (n : ℕ). outcome capacity 0 n s) (omega arith) }
+    → Finished h capacity ending cs s
+plays-finished h capacity zero [] p s e = record { state = s; all = all-done; no-ending = refl }
 plays-finished h capacity (suc n) [] p s e =
     absurd (omega (arith, outcome-number capacity (suc n) (suc p) s, rw (plays-ended h capacity 0 n p s) at e))
 plays-finished h capacity ending (c ∷ cs) p s e = by (play h capacity c s) refl (λ u. plays-finished h capacity ending cs (suc p) u)
   where
     by : (r : Result) → play h capacity c s ≡ r
-        → ((u : State) → plays h capacity ending cs (suc p) u .number ≡ 0 → Finished h capacity ending cs (suc p) u)
-        → Finished h capacity ending (c ∷ cs) p s
+        → ((u : State) → plays h capacity ending cs (suc p) u .number ≡ 0 → Finished h capacity ending cs u)
+        → Finished h capacity ending (c ∷ cs) s
     by (refused n) k ih =
-        absurd (omega (
-          arith,
-          play-refused h capacity c s n k,
-          outcome-number capacity n (suc p) s,
-          rw
-              (plays-refused h capacity ending c cs p s n k) at e,
-        ))
+        let z = rw (plays-refused h capacity ending c cs p s n k) at e in
+        absurd (omega (arith, play-refused h capacity c s n k, outcome-number capacity n (suc p) s, z))
     by (accepted u) k ih =
-        let z = plays-accepted h capacity ending c cs p s u k in
-        let f = ih u (rw z at e) in
-        record {
-          state = f .state;
-          all = all-more (play-passed h capacity c s u k) (f .all);
-          no-ending = f .no-ending;
-          is = z ∙ f .is
-              ∙ ap (λ (n : ℕ). outcome capacity 0 n (f .state)) (omega arith);
-        }
+        let f = ih u (rw (plays-accepted h capacity ending c cs p s u k) at e) in
+        record { state = f .state; all = all-more (play-passed h capacity c s u k) (f .all); no-ending = f .no-ending }
 
 -- ---- the run
 

@@ -1,3 +1,4 @@
 pub mod Script
 pub mod Player
+pub mod Passes
 pub mod Called
