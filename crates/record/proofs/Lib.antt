@@ -1,3 +1,6 @@
--- A log read back.
+-- A log read back, and a log written.
 pub mod Answers
 pub mod Decode
+pub mod Sums
+pub mod Writing
+pub mod WritingCases
