@@ -2,18 +2,26 @@
 use mathlib.Core.List.{List, [], _∷_, _++_}
 use mathlib.Core.Option.{Option, none, some}
 use Prim.Native.Nat.{ℕ}
-use lib.ListN.{replicate}
+use lib.ListN.{length, take, replicate}
 use Rattle.number.specs.Number.{Front, number, bad, above, readIn, read}
 use Rattle.pb.specs.Sum.{Sum, _·_, _≥_}
-use Rattle.record.specs.Record.{decodeLog}
-use Rattle.record.specs.Steps.{stepOf}
+use Rattle.record.specs.Record.{Record, decodeLog}
+use Rattle.record.specs.Steps.{stepOf, defined}
+use Rattle.totdb.specs.Nodes.{Node}
+use Rattle.cert.specs.Definitions.{if}
+use Rattle.cert.specs.Requests.{Request, request, needs, literalsOf}
+use Rattle.totlog.specs.Called.{table}
 use Rattle.totlog.specs.Player.{played}
+use Rattle.totlog.specs.Script.{script, headless, readScript}
 
--- What is worked out: a script with its capacity, a number read, or what a step of a script's log comes to.
+-- What is worked out: an outcome (its six numbers and the log), a number read, what a step of a log comes to, how many sums a log defines, or what a
+-- request needs below and its clauses.
 pub data Value : Type 0 where
   answer : ℕ → ℕ → ℕ → ℕ → ℕ → ℕ → List ℕ → Value
   reading : Front → Value
   comes-to : Option Sum → Value
+  sums : Option ℕ → Value
+  needed : List Request → List (List ℕ) → Value
 
 pub record Case : Type 0 where
   pub got : Value
@@ -27,10 +35,25 @@ unfoldable reads : List ℕ → Front → Case
 unfolding readIn above
 reads bs r = record { got = reading (read bs); want = reading r }
 
--- the step of a log that holds exactly the script's records
+unfoldable records : List ℕ → ℕ → Option (List Record)
+unfolding played decodeLog
+records s c = let o = played s c in decodeLog (take (o .used) (o .log))
+
 unfoldable steps-to : List ℕ → ℕ → ℕ → Option Sum → Case
-unfolding played decodeLog stepOf
-steps-to s c n w = record { got = comes-to (elim (decodeLog (played s c .log)) [ none ↦ none | some rs ↦ stepOf 1 rs n ]); want = comes-to w }
+unfolding records stepOf
+steps-to s c n w = record { got = comes-to (elim (records s c) [ none ↦ none | some rs ↦ stepOf 1 rs n ]); want = comes-to w }
+
+unfoldable defines : List ℕ → ℕ → ℕ → Case
+unfolding records defined
+defines s c n = record { got = sums (elim (records s c) [ none ↦ none | some rs ↦ some (length (defined 1 rs)) ]); want = sums (some n) }
+
+unfoldable nodesOf : List ℕ → List Node
+unfolding readScript table
+nodesOf s = elim (readScript s) [ script h cs ↦ table h (cs .list) | headless ↦ [] ]
+
+unfoldable calls-for : List ℕ → Request → List Request → List (List ℕ) → Case
+unfolding nodesOf needs literalsOf
+calls-for s x ys cs = record { got = needed (needs (nodesOf s) x) (literalsOf (nodesOf s) x); want = needed ys cs }
 
 -- two leaves and their join; with the request of value v in direction d
 unfoldable pair : ℕ → ℕ → List ℕ
@@ -45,22 +68,24 @@ pair-log =
     ∷ 0x02 ∷ 0x04 ∷ 0x00 ∷ 0x01 ∷ 0x01 ∷ 0x02 ∷ 0x02 ∷ 0x04
     ∷ 0x03 ∷ 0x04 ∷ 0x02 ∷ 0x01 ∷ 0x04 ∷ []
 
--- leaves 0 2 4 6, node 4 joins the first two, node 5 that and the third (outputs 6 7 8 of variables 6 to 8), node 6 joins node 5 from offset f on and
+-- leaves 0 2 4 6, node 4 joins the first two, node 5 that and the third (its outputs on the variables 6 to 8), node 6 joins node 5 from offset f on and
 -- the fourth
 unfoldable tree : ℕ → List ℕ
 tree f = 4 ∷ 1 ∷ 1 ∷ 0 ∷ 1 ∷ 2 ∷ 1 ∷ 4 ∷ 1 ∷ 6 ∷ 2 ∷ 0 ∷ 0 ∷ 0 ∷ 1 ∷ 0 ∷ 0 ∷ 2 ∷ 4 ∷ 0 ∷ 0 ∷ 2 ∷ 0 ∷ 0 ∷ 2 ∷ 5 ∷ f ∷ 0 ∷ 3 ∷ 0 ∷ 0 ∷ []
 
 -- the same with offset 1, and the request of value 1, if, of node 6
 unfoldable window : List ℕ
-window = 4 ∷ 1 ∷ 1 ∷ 0 ∷ 1 ∷ 2 ∷ 1 ∷ 4 ∷ 1 ∷ 6 ∷ 2 ∷ 0 ∷ 0 ∷ 0 ∷ 1 ∷ 0 ∷ 0 ∷ 2 ∷ 4 ∷ 0 ∷ 0 ∷ 2 ∷ 0 ∷ 0 ∷ 2 ∷ 5 ∷ 1 ∷ 0 ∷ 3 ∷ 0 ∷ 0 ∷ 3 ∷ 6 ∷ 1 ∷ 1 ∷
-    []
+unfolding tree
+window = tree 1 ++ (3 ∷ 6 ∷ 1 ∷ 1 ∷ [])
 
 unfoldable pub cases : List Case
-unfolding plays reads steps-to pair pair-log tree window
+unfolding plays reads steps-to defines calls-for pair pair-log tree window
 cases =
-    -- the whole case; its log is one byte too short
+    -- the whole case; with a log one byte too short; the sums it defines; what its request calls for
     plays (pair 1 1) 46 (answer 0 4 46 4 2 3 pair-log)
     ∷ plays (pair 1 1) 45 (answer 14 4 0 0 0 3 (replicate 45 0))
+    ∷ defines (pair 1 1) 46 2
+    ∷ calls-for (pair 1 1) (request 2 1 if) (request 0 1 if ∷ request 1 1 if ∷ []) ((3 ∷ 4 ∷ []) ∷ (1 ∷ 4 ∷ []) ∷ [])
     -- the empty script; a head alone
     ∷ plays [] 2 (answer 2 0 0 0 0 0 (0 ∷ 0 ∷ []))
     ∷ plays (2 ∷ 1 ∷ []) 2 (answer 0 0 0 0 0 0 (0 ∷ 0 ∷ []))

@@ -51,7 +51,7 @@ read bs = readIn groups bs
 
 -- ---- the number at a place of a list
 
--- The same with the place after the number, where the list is the end of s.
+-- The number, with the place after it in s, of which the list read is the end.
 unfoldable pub placed : List ℕ → Front → Reading
 placed s (number x rest) = Number x (length s - length rest)
 placed s bad = Bad
