@@ -1,5 +1,5 @@
--- The steps of every stored key come to the sums that document 01 gives for it: real definitions as written, and a window's derivations to its
--- definitions.
+-- The steps of every stored key come to the sums that document 01 gives for it: real definitions as written,
+-- and a window's derivations to its definitions.
 use mathlib.Core.Path.{_≡_, refl, sym, _∙_, ap, subst}
 use mathlib.Core.Logic.{_≢_, dite, ⊎-elim}
 use mathlib.Core.List.{List, [], _∷_, _++_, map, flatMap, map-append, append-assoc, append-nil, List·Memᴰ, List·Memᴰ·head, List·Memᴰ·tail, List·Memᴰ·not-nil, List·Memᴰ·cases-cons, List·Memᴰ·append-cases, List·Memᴰ·eq-of-singleton, Memᴰ·map}

@@ -1,5 +1,5 @@
--- The clauses of the totalizer of Bailleux and Boufkhad (Efficient CNF encoding of Boolean cardinality constraints, 2003), apart from what writes
--- them.
+-- The clauses of the totalizer of Bailleux and Boufkhad (Efficient CNF encoding of Boolean cardinality constraints, 2003),
+-- apart from what writes them.
 -- A join has the outputs r_1 .. r_m, and its sides a_1 .. a_p and b_1 .. b_q. For 0 ≤ α ≤ p, 0 ≤ β ≤ q and α + β = σ there are two clauses,
 --   C1(α, β, σ): ¬a_α ∨ ¬b_β ∨ r_σ,    C2(α, β, σ): a_(α+1) ∨ b_(β+1) ∨ ¬r_(σ+1),
 -- where a_0, b_0 and r_0 are true, and a_(p+1), b_(q+1) and r_(m+1) are false.

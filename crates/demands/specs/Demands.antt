@@ -53,8 +53,8 @@ Demand1 = (bs : List ℕ) (capacity : ℕ) → Ends bs capacity × Padded capaci
 -- totalizer of Bailleux and Boufkhad, and each derivation, worked out by the cutting-planes rules, comes to exactly the clause or window definition it is
 -- written for." (That the log equals what the Rust records is not stated here: crate `recorded` holds `played` to answers recorded from the Rust.)
 
--- The records of an accepted script: `served` are its requests and all they need below, `stored` the definitions that their clauses look up, each
--- once.
+-- The records of an accepted script: `served` are its requests and all they need below,
+-- `stored` the definitions that their clauses look up, each once.
 pub record Proved (h : Head) (cs : List Command) (rs : List Record) : Type 0 where
   pub served : List Request
   pub served-once : List·Nodup served

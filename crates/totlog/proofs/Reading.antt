@@ -1,5 +1,5 @@
--- A script is read from the front: what a command takes does not depend on the bytes after it. So a script cut after some of its commands reads as
--- those.
+-- A script is read from the front: what a command takes does not depend on the bytes after it.
+-- So a script cut after some of its commands reads as those.
 use mathlib.Core.Path.{_≡_, refl, sym, _∙_, ap}
 use mathlib.Core.Bool.{Bool, true, false}
 use mathlib.Core.List.{List, [], _∷_, _++_, append-assoc}

@@ -1,5 +1,5 @@
--- Each node stands under at most one join, so a join is as long as there are leaves at most, and there are fewer joins than leaves: variables stay
--- low.
+-- Each node stands under at most one join, so a join is as long as there are leaves at most, and there are fewer joins than leaves:
+-- variables stay low.
 use mathlib.Core.Path.{_≡_, refl, sym, _∙_, ap, subst}
 use mathlib.Core.Bool.{Bool, true, false, _&&_, _||_, not as notb}
 use mathlib.Core.Logic.{_≢_}
