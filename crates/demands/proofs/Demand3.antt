@@ -23,7 +23,7 @@ module _ (h : Head) (capacity : ℕ) (cs : List Command) (u : State) (a : AllPas
   listed-of : Listed h cs (u .log)
   listed-of = record {
     clauses-listed = λ c. (clauses-from h capacity cs u a c, clauses-has h capacity cs u a c);
-    sums-listed = proved h capacity cs u a;
+    proved = proved h capacity cs u a;
   }
 
 pub demand-3 : Demand3

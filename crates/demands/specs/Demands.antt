@@ -100,7 +100,7 @@ pub record Matching (h : Head) (o p : Outcome) (rs qs : List Record) : Type 0 wh
 -- The clauses are those that the script calls for; the sums are those of the keys called for, as demand 2 has them.
 pub record Listed (h : Head) (cs : List Command) (rs : List Record) : Type 0 where
   pub clauses-listed : (c : List ℕ) → (List·Memᴰ c (clauses rs) → Called h cs c) × (Called h cs c → List·Memᴰ c (clauses rs))
-  pub sums-listed : Proved h cs rs
+  pub proved : Proved h cs rs
 
 unfoldable pub Demand3 : Type 0
 Demand3 =
