@@ -3,7 +3,8 @@ use mathlib.Core.Path.{_≡_, refl}
 use mathlib.Core.List.{List, [], _∷_, flatMap}
 use Prim.Native.Nat.{ℕ}
 use Rattle.record.specs.Record.{numbers}
-use Rattle.totdb.specs.Nodes.{Side, Node, leaf, join}
+use Rattle.totdb.specs.Nodes.{Node, leaf, join}
+use Rattle.totdb.specs.declared.Side.{Side}
 use Rattle.cert.specs.State.{State, start, serve, requests}
 
 side : ℕ → ℕ → Side

@@ -8,7 +8,8 @@ use native.Mathlib.Omega.{arith}
 use lib.ListN.{length}
 use Rattle.pb.specs.Sum.{neg}
 use Rattle.memo.proofs.Lists.{not-mem, map-twice, nodup-map}
-use Rattle.totdb.specs.Nodes.{range, Node, len, at, leaf, join, sideLen, sideLeaves, output, Side, sideLit}
+use Rattle.totdb.specs.Nodes.{range, Node, len, at, leaf, join, sideLen, sideLeaves, output, sideLit}
+use Rattle.totdb.specs.declared.Side.{Side}
 use Rattle.cert.specs.Definitions.{Direction, if, only-if}
 use Rattle.cert.specs.Requests.{splits, positive, within, named, Request, request, needs, needsAt, below, negPart, posPart, clausesOf, clausesAt, ifClause, onlyIfClause, Clause, literalsOf}
 use Rattle.cert.proofs.Rules.{Ok, Below}

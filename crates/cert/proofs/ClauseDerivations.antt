@@ -12,7 +12,8 @@ use Rattle.pb.specs.Sum.{Sum, units, neg, variable, normal, clauseSum, keep, _�
 use Rattle.pb.proofs.Normal.{Same, Off, Apart, Clean, Apart-clean, same-room, weight}
 use Rattle.pb.proofs.Rules.{same-trans, same-add, literal-part, same-refl, Apart-keep, coef-units, weight-units, coef-negs, weight-negs}
 use Rattle.pb.proofs.Terms.{variable-neg}
-use Rattle.totdb.specs.Nodes.{Node, Side, sideLit, sideLen}
+use Rattle.totdb.specs.Nodes.{Node, sideLit, sideLen}
+use Rattle.totdb.specs.declared.Side.{Side}
 use Rattle.cert.specs.Definitions.{addSequence}
 use Rattle.cert.specs.Requests.{negPart, posPart}
 use Rattle.cert.proofs.Derivations.{Gives, Room, gives-add, gives-step, clean-room, evaluate-gives, gives-saturate}

@@ -9,7 +9,8 @@ use native.Mathlib.Omega.{arith}
 use lib.ListN.{length, length-append}
 use Rattle.pb.specs.Sum.{variable, units}
 use Rattle.pb.proofs.Normal.{Off, Apart}
-use Rattle.totdb.specs.Nodes.{Node, len, at, output, leaf, taken, leaves, Side, join, range, isOver, sideLeaves, outputs}
+use Rattle.totdb.specs.Nodes.{Node, len, at, output, leaf, taken, leaves, join, range, isOver, sideLeaves, outputs}
+use Rattle.totdb.specs.declared.Side.{Side}
 use Rattle.cert.proofs.Apart.{range-mem}
 use Rattle.cert.proofs.Rules.{at-more, sideLeaves-more}
 use Rattle.cert.proofs.Tables.{length-snoc, at-last, at-snoc, taken-snoc}

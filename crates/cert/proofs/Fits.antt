@@ -7,7 +7,8 @@ use native.Mathlib.Decide.{decLe}
 use native.Mathlib.Omega.{arith}
 use lib.ListN.{length}
 use Rattle.memo.proofs.Serve.{Falls}
-use Rattle.totdb.specs.Nodes.{Node, len, at, range, Side, sideLen, sideLit, leaf, join}
+use Rattle.totdb.specs.Nodes.{Node, len, at, range, sideLen, sideLit, leaf, join}
+use Rattle.totdb.specs.declared.Side.{Side}
 use Rattle.cert.specs.Definitions.{Key, real, window-zero, window, pulls, Definition, stored, lacking, Direction, oneDef, if, only-if, axiom-of, nothing, realDef, windowDef, longDef, sideDef}
 use Rattle.cert.specs.Equal.{keyRank}
 use Rattle.cert.specs.Requests.{Request, nodeOf, request, needs, keyOf, Clause, looksOf, clausesOf, clausesAt, ifClause, onlyIfClause, splits}

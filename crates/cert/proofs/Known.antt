@@ -15,7 +15,8 @@ use Rattle.pb.specs.Sum.{Sum, normal, _≥_, keep, _·_, neg, Term, units, vari
 use Rattle.pb.proofs.Normal.{Off, Apart}
 use Rattle.record.specs.Record.{Record, sum, derivation, clause, deletion, steps}
 use Rattle.record.specs.Steps.{Defined, written, derived, sumsAfter, stepSum}
-use Rattle.totdb.specs.Nodes.{Node, len, leaves, output, range, Side, join, leaf, at, outputs}
+use Rattle.totdb.specs.Nodes.{Node, len, leaves, output, range, join, leaf, at, outputs}
+use Rattle.totdb.specs.declared.Side.{Side}
 use Rattle.cert.specs.Definitions.{Key, definedBy, realRecords, realIf, realOnlyIf, atLeastZero, asWritten, real, outputsBefore, outputsAfter, total, ifPart, windowIfSum, onlyIfPart, windowOnlyIfSum, windowIf, windowOnlyIf, pulls, window, keyRecords, window-zero}
 use Rattle.cert.specs.Equal.{key-dec}
 use Rattle.cert.specs.State.{Stored, fromIn, State, keys, stepIn, define, Head}

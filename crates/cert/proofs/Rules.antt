@@ -9,7 +9,8 @@ use lib.ListN.{length, length-append, List·getD-append}
 use Rattle.memo.proofs.Grow.{World, Grows}
 use Rattle.memo.proofs.Lists.{map-agree, of-flatMap}
 use Rattle.memo.proofs.Serve.{Falls}
-use Rattle.totdb.specs.Nodes.{Node, leaf, join, at, Side, sideLen, sideLit, sideOutputs, outputs, range, sideLeaves, plainOr, leaves, len}
+use Rattle.totdb.specs.Nodes.{Node, leaf, join, at, sideLen, sideLit, sideOutputs, outputs, range, sideLeaves, plainOr, leaves, len}
+use Rattle.totdb.specs.declared.Side.{Side}
 use Rattle.cert.specs.Definitions.{Key, real, window-zero, window, pulls, Direction, Definition, stored, oneDef, if, only-if, lacking, realDef, windowDef, longDef, sideDef}
 use Rattle.cert.specs.Equal.{keyRank}
 use Rattle.cert.specs.Requests.{Request, clausesOf, Clause, looksOf, nodeOf, needs, needsAt, below, request, named, keyOf, clausesAt, ifClause, onlyIfClause, splits, negPart, posPart, literalsOf, lookups}

@@ -7,7 +7,8 @@ use native.Mathlib.Decide.{decLe, ℕ-discrete}
 use native.Mathlib.Omega.{arith}
 use Rattle.pb.specs.Sum.{neg}
 use Rattle.memo.proofs.Lists.{map-twice, flatMap-append}
-use Rattle.totdb.specs.Nodes.{Side, Node, leaf, join, at, leaves, len, output, range, sideLen, sideLit}
+use Rattle.totdb.specs.Nodes.{Node, leaf, join, at, leaves, len, output, range, sideLen, sideLit}
+use Rattle.totdb.specs.declared.Side.{Side}
 use Rattle.cert.specs.Definitions.{Direction, if, only-if}
 use Rattle.cert.specs.Requests.{request, splits, Clause, negPart, posPart, ifClause, onlyIfClause, clausesAt, clausesOf, literalsOf}
 use Rattle.cert.specs.Totalizer.{Extended, never, lit, literalAt, complement, simplify, C1, C2, schema, ofSide, ofNode, totalizerAt, totalizer}

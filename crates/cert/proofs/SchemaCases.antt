@@ -4,7 +4,8 @@ use mathlib.Core.List.{List, [], _∷_, map, flatMap}
 use Prim.Native.Nat.{ℕ}
 use native.Mathlib.Decide.{decLe, ℕ-discrete}
 use Rattle.pb.specs.Sum.{neg}
-use Rattle.totdb.specs.Nodes.{Side, Node, leaf, join, at, leaves, len, output, range, limited, sideLen, sideLit}
+use Rattle.totdb.specs.Nodes.{Node, leaf, join, at, leaves, len, output, range, limited, sideLen, sideLit}
+use Rattle.totdb.specs.declared.Side.{Side}
 use Rattle.cert.specs.Definitions.{Direction, if, only-if}
 use Rattle.cert.specs.Requests.{request, splits, negPart, posPart, ifClause, onlyIfClause, clausesAt, clausesOf, literalsOf}
 use Rattle.cert.specs.Totalizer.{literalAt, complement, simplify, C1, C2, schema, ofSide, ofNode, totalizerAt, totalizer}

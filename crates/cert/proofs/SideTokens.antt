@@ -9,7 +9,8 @@ use lib.ListN.{length}
 use Rattle.pb.specs.Sum.{variable, units}
 use Rattle.pb.proofs.Normal.{Off}
 use Rattle.record.specs.Steps.{stepSum}
-use Rattle.totdb.specs.Nodes.{Node, Side, len, join, leaves, at, leaf, sideLit, range, output, sideLen, sideLeaves, plainOr, limited, sideOutputs, outputs}
+use Rattle.totdb.specs.Nodes.{Node, len, join, leaves, at, leaf, sideLit, range, output, sideLen, sideLeaves, plainOr, limited, sideOutputs, outputs}
+use Rattle.totdb.specs.declared.Side.{Side}
 use Rattle.cert.specs.Definitions.{real, realDef, only-if, stored, lacking, if, window, windowDef, Key, pulls, window-zero, longDef, sideDef, oneDef}
 use Rattle.cert.specs.Requests.{keyOf, defTokens}
 use Rattle.cert.specs.State.{State, keys, stepIn, Head}

@@ -9,7 +9,8 @@ use native.Mathlib.Omega.{arith}
 use borrow.Author.Tests.{eq-eqb, ne-eqb}
 use lib.ListN.{length, length-append}
 use lib.Seq.{getD-append-seam}
-use Rattle.totdb.specs.Nodes.{Node, at, leaf, join, Side, any, isOver, taken}
+use Rattle.totdb.specs.Nodes.{Node, at, leaf, join, any, isOver, taken}
+use Rattle.totdb.specs.declared.Side.{Side}
 use Rattle.cert.specs.Requests.{Request, request}
 use Rattle.cert.proofs.Apart.{Fit, Sized, Numbered, Right}
 use Rattle.cert.proofs.Rules.{at-more, sideLen-more, sideLeaves-more}

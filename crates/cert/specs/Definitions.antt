@@ -9,7 +9,8 @@ use Rattle.pb.specs.Rules.{Token, step, literal, add, divide, saturate}
 use Rattle.pb.specs.Sum.{neg, _·_, Sum, _≥_, units, keep, normal}
 use Rattle.record.specs.Record.{Record, sum, derivation, clause, deletion}
 use Rattle.record.specs.Steps.{Defined, written, derived}
-use Rattle.totdb.specs.Nodes.{Side, Node, at, leaves, len, output, range, sideLen, sideLit, plainOr, outputs}
+use Rattle.totdb.specs.Nodes.{Node, at, leaves, len, output, range, sideLen, sideLit, plainOr, outputs}
+use Rattle.totdb.specs.declared.Side.{Side}
 
 -- The direction of a definition or a request (rustsat's Semantics), for an output of value v. `if`: where at least v of the leaf list are true, the
 -- output is true. `only-if`: the output is true only where at least v are.

@@ -6,7 +6,8 @@ use Prim.Native.Nat.{ℕ, zero, suc, _+_, _-_, min}
 use native.Mathlib.Decide.{decLe}
 use Rattle.pb.specs.Rules.{Token, step, literal, saturate}
 use Rattle.pb.specs.Sum.{neg}
-use Rattle.totdb.specs.Nodes.{Side, Node, leaf, join, at, len, output, range, sideLen, sideLit}
+use Rattle.totdb.specs.Nodes.{Node, leaf, join, at, len, output, range, sideLen, sideLit}
+use Rattle.totdb.specs.declared.Side.{Side}
 use Rattle.cert.specs.Definitions.{Direction, if, only-if, Key, Definition, nothing, axiom-of, stored, lacking, realDef, sideDef, addSequence}
 
 -- A node, a value of it and a direction. It is held once its clauses are written.

@@ -8,7 +8,8 @@ use mathlib.Core.List.{List, [], _∷_, map, flatMap}
 use Prim.Native.Nat.{ℕ, zero, suc, _+_}
 use native.Mathlib.Decide.{decLe, ℕ-discrete}
 use Rattle.pb.specs.Sum.{neg}
-use Rattle.totdb.specs.Nodes.{Side, Node, leaf, join, at, len, output, range, sideLen, sideLit}
+use Rattle.totdb.specs.Nodes.{Node, leaf, join, at, len, output, range, sideLen, sideLit}
+use Rattle.totdb.specs.declared.Side.{Side}
 use Rattle.cert.specs.Definitions.{Direction, if, only-if}
 use Rattle.cert.specs.Requests.{Request, request}
 

@@ -6,7 +6,8 @@ use native.Mathlib.Omega.{arith}
 use Rattle.record.specs.Record.{Record, bytes, decodeLog}
 use Rattle.cert.specs.State.{State, start, Head}
 use Rattle.totlog.specs.Player.{Result, accepted, refused, play, Outcome, outcome, unrefused, plays, refusedAtHead, played}
-use Rattle.totlog.specs.Script.{Command, Commands, script, readScript}
+use Rattle.totlog.specs.Script.{Commands, script, readScript}
+use Rattle.totlog.specs.declared.Command.{Command}
 use Rattle.totlog.proofs.Numbers.{script-most, plays-most}
 use Rattle.totlog.proofs.Refusal.{outcome-number, outcome-place, plays-done, plays-ended, plays-accepted, plays-refused, padded, refusal}
 use Rattle.totlog.proofs.Scripts.{head-number, Way, too-long, no-head, bad-head, commands, way, accepted-reads, passes-is}

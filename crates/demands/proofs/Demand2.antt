@@ -16,7 +16,7 @@ use Rattle.cert.proofs.Apart.{Right}
 use Rattle.cert.proofs.Schema.{clauses-schema}
 use Rattle.totlog.specs.Called.{table}
 use Rattle.totlog.specs.Passes.{AllPassed}
-use Rattle.totlog.specs.Script.{Command}
+use Rattle.totlog.specs.declared.Command.{Command}
 use Rattle.totlog.proofs.ClauseSteps.{clause-steps}
 use Rattle.totlog.proofs.Defines.{defines-exactly}
 use Rattle.totlog.proofs.Matching.{held-from, held-has, held-once, held-right, held-clauses, keys-from, keys-has, keys-once, nodes-table, steps-count}

@@ -9,7 +9,7 @@ use Rattle.cert.specs.Definitions.{definedBy}
 use Rattle.cert.specs.State.{State, start, keys, Head}
 use Rattle.totlog.specs.Called.{table}
 use Rattle.totlog.specs.Passes.{AllPassed}
-use Rattle.totlog.specs.Script.{Command}
+use Rattle.totlog.specs.declared.Command.{Command}
 use Rattle.totlog.proofs.Matching.{clauses-from, clauses-has, clauses-once, same-table, same-clauses, same-sums, same-steps}
 use Rattle.totlog.proofs.Scripts.{accepted-script}
 use Rattle.demands.specs.Demands.{Listed, Demand3}

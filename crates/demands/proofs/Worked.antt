@@ -5,14 +5,15 @@ use mathlib.Core.List.{List, [], _∷_, List·Memᴰ, List·Memᴰ·head, List·
 use Prim.Native.Nat.{ℕ}
 use Rattle.memo.specs.Closure.{Same}
 use Rattle.record.specs.Record.{Record}
-use Rattle.totdb.specs.Nodes.{Side}
+use Rattle.totdb.specs.declared.Side.{Side}
 use Rattle.cert.specs.Definitions.{if, only-if}
 use Rattle.cert.specs.Requests.{Request, request}
 use Rattle.cert.specs.State.{Head}
 use Rattle.totlog.specs.Called.{makes, asked}
 use Rattle.totlog.specs.Passes.{Passes}
 use Rattle.totlog.specs.Player.{played}
-use Rattle.totlog.specs.Script.{Command, Commands, readScript}
+use Rattle.totlog.specs.Script.{Commands, readScript}
+use Rattle.totlog.specs.declared.Command.{Command}
 use Rattle.totlog.proofs.Scripts.{accepted-script}
 use Rattle.demands.specs.Demands.{Ends, Holds, Proved, Alike, Matching, Demand1, Demand2, Demand3}
 use Rattle.demands.proofs.Demand1.{demand-1}
@@ -41,21 +42,21 @@ plain n = record { node = n; offset = 0; limit = 0 }
 unfoldable five : List Command → List Command
 unfolding plain
 five cs =
-    Command.leaf 0 ∷ Command.leaf 2 ∷ Command.leaf 5 ∷ Command.leaf 7 ∷ Command.join (plain 0) (plain 1) ∷ Command.join (plain 4) (plain 2) ∷ cs
+    Command.Leaf 0 ∷ Command.Leaf 2 ∷ Command.Leaf 5 ∷ Command.Leaf 7 ∷ Command.Join (plain 0) (plain 1) ∷ Command.Join (plain 4) (plain 2) ∷ cs
 
 unfoldable six : List Command → List Command
 unfolding plain
-six cs = Command.join (record { node = 5; offset = 1; limit = 0 }) (plain 3) ∷ cs
+six cs = Command.Join (record { node = 5; offset = 1; limit = 0 }) (plain 3) ∷ cs
 
 unfoldable pub first-commands : Commands
 unfolding five six
-first-commands = record { list = five (six (Command.request 6 1 1 ∷ Command.request 6 2 2 ∷ Command.request 5 2 1 ∷ [])); ending = 0 }
+first-commands = record { list = five (six (Command.Request 6 1 1 ∷ Command.Request 6 2 2 ∷ Command.Request 5 2 1 ∷ [])); ending = 0 }
 
 unfoldable pub second-commands : Commands
 unfolding five six
 second-commands =
     record {
-      list = five (Command.request 5 2 1 ∷ six (Command.request 6 2 2 ∷ Command.request 6 1 1 ∷ Command.request 6 2 2 ∷ Command.close ∷ []));
+      list = five (Command.Request 5 2 1 ∷ six (Command.Request 6 2 2 ∷ Command.Request 6 1 1 ∷ Command.Request 6 2 2 ∷ Command.Close ∷ []));
       ending = 0;
     }
 

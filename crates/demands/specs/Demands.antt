@@ -15,7 +15,8 @@ use Rattle.cert.specs.Totalizer.{totalizer}
 use Rattle.totlog.specs.Called.{makes, asked, table, Closure, Called, KeyCalled}
 use Rattle.totlog.specs.Passes.{Passes}
 use Rattle.totlog.specs.Player.{Outcome, Padded, unrefused, played}
-use Rattle.totlog.specs.Script.{Command, Commands, script, readScript}
+use Rattle.totlog.specs.Script.{Commands, script, readScript}
+use Rattle.totlog.specs.declared.Command.{Command}
 
 -- ---- an outcome and its records
 

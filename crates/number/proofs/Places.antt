@@ -72,6 +72,14 @@ readFrom-number g s at {x} {e} q = go (readIn g (drop at s)) refl q
         let v : y ≡ x = cc in
         (p ∙ rw (v, d), omega arith, omega arith)
 
+pub readFrom-bad : (g : ℕ) (s : List ℕ) (at : ℕ) → readFrom g s at ≡ Bad → readIn g (drop at s) ≡ bad
+unfolding placed
+readFrom-bad g s at q = go (readIn g (drop at s)) refl q
+  where
+    go : (r : Front) → readIn g (drop at s) ≡ r → placed s r ≡ Bad → readIn g (drop at s) ≡ bad
+    go bad p q = p
+    go (number y rest) p q = absurd (let z : _≡_ {A = ℕ} 0 1 = cc in omega arith)
+
 -- what reads in a list of bytes takes no more groups than the limit
 pub readFrom-length : (g : ℕ) (s : List ℕ) (at : ℕ) {x e : ℕ} → Bytes s → readFrom g s at ≡ Number x e → length (encode x) ≤ g
 unfolding Bytes

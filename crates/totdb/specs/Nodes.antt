@@ -4,12 +4,7 @@ use mathlib.Core.List.{List, [], _∷_, _++_, map}
 use Prim.Native.Nat.{ℕ, zero, suc, _+_, _-_, _*_}
 use lib.Dec.{eqb}
 use lib.ListN.{length, getD}
-
--- A side (rustsat's NodeCon): a node, an offset and a limit, 0 for none. Offset 0 with no limit is plain; any other is a window.
-pub record Side : Type 0 where
-  pub node : ℕ
-  pub offset : ℕ
-  pub limit : ℕ
+use Rattle.totdb.specs.declared.Side.{Side}
 
 -- A leaf with its literal. A join with its leaf list, its first output variable and its two sides.
 pub data Node : Type 0 where
@@ -34,6 +29,10 @@ unfoldable pub output : Node → ℕ → ℕ
 output (leaf l) i = l
 output (join ls o l r) i = 2 * (o + i - 1)
 
+-- The same, where the output of value 1 is the literal l: the outputs of a join stand on variables that follow one another.
+unfoldable pub fromFirst : ℕ → ℕ → ℕ
+fromFirst l i = l + 2 * (i - 1)
+
 -- n numbers from s up
 unfoldable pub range : ℕ → ℕ → List ℕ
 range s zero = []
@@ -51,10 +50,13 @@ unfoldable pub limited : ℕ → ℕ → ℕ
 limited zero n = n
 limited (suc k) n = suc k
 
--- The node's length less the offset, or the limit if set.
+-- A side of a node of n values: n less the offset, or the limit if set.
+abbrev pub lengthOver : Side → ℕ → ℕ
+lengthOver s n = limited (s .limit) (n - s .offset)
+
 unfoldable pub sideLen : List Node → Side → ℕ
 unfolding at len limited
-sideLen t s = limited (s .limit) (len (at t (s .node)) - s .offset)
+sideLen t s = lengthOver s (len (at t (s .node)))
 
 -- The a-th literal is the node's output f + a.
 unfoldable pub sideLit : List Node → Side → ℕ → ℕ

@@ -16,7 +16,8 @@ use Rattle.pb.specs.Sum.{Sum, normal, variable, units, clauseSum}
 use Rattle.pb.proofs.Normal.{Off, Apart}
 use Rattle.record.specs.Record.{Record, sum, derivation, clause, deletion, clauses, steps}
 use Rattle.record.specs.Steps.{stepSum, sumsAfter, stepOf}
-use Rattle.totdb.specs.Nodes.{Node, Side, leaf, join, at, leaves, len, output, sideLen, sideLit, sideLeaves, known, joined}
+use Rattle.totdb.specs.Nodes.{Node, leaf, join, at, leaves, len, output, sideLen, sideLit, sideLeaves, known, joined}
+use Rattle.totdb.specs.declared.Side.{Side}
 use Rattle.cert.specs.Definitions.{Key, Definition, if, only-if, Direction, real, stored, lacking, realDef, sideDef, pulls, keyRecords}
 use Rattle.cert.specs.Requests.{Request, request, Clause, ifClause, onlyIfClause, clausesAt, clausesOf, splits, keyOf, looksOf, defTokens, clauseTokens}
 use Rattle.cert.specs.State.{State, keys, stepIn, define, write, hold, serve, start, requests, Head}
@@ -31,7 +32,7 @@ use Rattle.cert.proofs.Totalizer.{real-if, real-only-if}
 use Rattle.cert.proofs.WindowDerivations.{real-if-clean, real-only-clean}
 use Rattle.totlog.specs.Passes.{AllPassed}
 use Rattle.totlog.specs.Player.{make, delete, storedSteps, firstNo, questions, act}
-use Rattle.totlog.specs.Script.{Command}
+use Rattle.totlog.specs.declared.Command.{Command}
 use Rattle.totlog.proofs.Counts.{all-keep}
 use Rattle.totlog.proofs.Defines.{Told, told-start, told-act, step-known, known-after, known-length}
 use Rattle.totlog.proofs.Sound.{Sound, sideLeaves-length, request-fits, requests-asked, requests-right, sound-start}
@@ -364,19 +365,19 @@ kept-make h a n s k = record { closed = k .closed; come = k .come }
 
 kept-act : (h : Head) (c : Command) (s : State) → firstNo (questions h (s .nodes) c) ≡ 0 → Sound h s → Good h s → Kept h (act c s)
 unfolding act
-kept-act h (Command.leaf l) s q p k = by (known (s .nodes) l)
+kept-act h (Command.Leaf l) s q p k = by (known (s .nodes) l)
   where
     by : (b : Bool) → Kept h (elim b as (λ _. State) [ true ↦ s | false ↦ make (leaf l) 0 s ])
     by true = k .kept
     by false = kept-make h (leaf l) 0 s (k .kept)
-kept-act h (Command.join l r) s q p k =
+kept-act h (Command.Join l r) s q p k =
     kept-make h (joined (s .nodes) (s .next-variable) l r) (len (joined (s .nodes) (s .next-variable) l r)) s (k .kept)
-kept-act h (Command.request n v d) s q p k =
+kept-act h (Command.Request n v d) s q p k =
     let t = s .nodes in
     let f = request-fits h t n v d q in
     let before : Stepped h t s = record { known-sums = k .told .meant .known-sums; kept = k .kept } in
     stepped-serve h t (p .sized) (k .told .distinct) (requests n v d) (requests-right t n v d f) (requests-asked t n v d f) s before .kept
-kept-act h Command.close s q p k =
+kept-act h Command.Close s q p k =
     let rs : List Record = deletion (storedSteps (s .nodes) (s .stored)) ∷ [] in
     record {
       closed = unfold delete keys in k .kept .closed;

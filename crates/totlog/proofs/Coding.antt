@@ -11,7 +11,9 @@ use Rattle.number.proofs.Laws.{encode-some, read-encode, read-number}
 use Rattle.memo.proofs.Lists.{flatMap-append}
 use Rattle.record.proofs.Decode.{Small}
 use Rattle.cert.specs.State.{Head}
-use Rattle.totlog.specs.Script.{Command, leaf, join, request, close, Next, command, refuse, end, get, arguments, readCommand, closes, Commands, stop, before, readCommands, script, readScript, commandNumbers, scriptBytes}
+use Rattle.totlog.specs.Script.{Next, command, refuse, end, get, arguments, readCommand, closes, Commands, stop, before, readCommands, script, readScript, commandNumbers, scriptBytes}
+use Rattle.totlog.specs.declared.Command.{Command}
+use Rattle.totlog.specs.declared.Command.the-variants.{Leaf, Join, Request, Close}
 use Rattle.totlog.proofs.Refusal.{head-read}
 
 -- ---- what is written reads
@@ -27,25 +29,25 @@ commandBytes c = flatMap encode (commandNumbers c)
 
 arguments-back : (c : Command) (rest : List ℕ) → Small (commandNumbers c) → get (commandBytes c ++ rest) arguments ≡ command c rest
 unfolding arguments commandNumbers Small
-arguments-back (leaf l) rest s = get-more 1 _ rest _ (s .0) ∙ get-more l _ rest _ (s .1 .0) ∙ (unfold flatMap in refl)
-arguments-back (join l r) rest s =
+arguments-back (Leaf l) rest s = get-more 1 _ rest _ (s .0) ∙ get-more l _ rest _ (s .1 .0) ∙ (unfold flatMap in refl)
+arguments-back (Join l r) rest s =
     get-more 2 _ rest _ (s .0) ∙ get-more (l .node) _ rest _ (s .1 .0) ∙ get-more (l .offset) _ rest _ (s .1 .1 .0)
     ∙ get-more (l .limit) _ rest _ (s .1 .1 .1 .0)
     ∙ get-more (r .node) _ rest _ (s .1 .1 .1 .1 .0) ∙ get-more (r .offset) _ rest _ (s .1 .1 .1 .1 .1 .0)
     ∙ get-more (r .limit) _ rest _ (s .1 .1 .1 .1 .1 .1 .0)
     ∙ (unfold flatMap in refl)
-arguments-back (request n v d) rest s =
+arguments-back (Request n v d) rest s =
     get-more 3 _ rest _ (s .0) ∙ get-more n _ rest _ (s .1 .0) ∙ get-more v _ rest _ (s .1 .1 .0) ∙ get-more d _ rest _ (s .1 .1 .1 .0)
     ∙ (unfold flatMap in refl)
-arguments-back close rest s = get-more 4 _ rest _ (s .0) ∙ (unfold flatMap in refl)
+arguments-back Close rest s = get-more 4 _ rest _ (s .0) ∙ (unfold flatMap in refl)
 
 some-bytes : (c : Command) → 0 < length (commandBytes c)
 unfolding commandNumbers flatMap
-some-bytes (leaf l) = omega (arith, encode-some 1, length-append (encode 1) (flatMap encode (l ∷ [])))
-some-bytes (join l r) =
+some-bytes (Leaf l) = omega (arith, encode-some 1, length-append (encode 1) (flatMap encode (l ∷ [])))
+some-bytes (Join l r) =
     omega (arith, encode-some 2, length-append (encode 2) (flatMap encode (l .node ∷ l .offset ∷ l .limit ∷ r .node ∷ r .offset ∷ r .limit ∷ [])))
-some-bytes (request n v d) = omega (arith, encode-some 3, length-append (encode 3) (flatMap encode (n ∷ v ∷ d ∷ [])))
-some-bytes close = omega (arith, encode-some 4, length-append (encode 4) [])
+some-bytes (Request n v d) = omega (arith, encode-some 3, length-append (encode 3) (flatMap encode (n ∷ v ∷ d ∷ [])))
+some-bytes Close = omega (arith, encode-some 4, length-append (encode 4) [])
 
 command-back : (c : Command) (rest : List ℕ) → Small (commandNumbers c) → readCommand false (commandBytes c ++ rest) ≡ command c rest
 command-back c rest s = by (commandBytes c) (some-bytes c) (arguments-back c rest s)
@@ -154,14 +156,14 @@ spells-get ms f l bs c rest h e = by (read bs) refl
 spells-arguments : (n : ℕ) → Spells (n ∷ []) (arguments n)
 unfolding arguments commandNumbers
 spells-arguments zero = spells-refuse (zero ∷ []) 5
-spells-arguments (suc zero) = spells-get (1 ∷ []) _ (λ l. spells-done (leaf l))
+spells-arguments (suc zero) = spells-get (1 ∷ []) _ (λ l. spells-done (Leaf l))
 spells-arguments (suc (suc zero)) =
     spells-get (2 ∷ []) _ (λ n. spells-get (2 ∷ n ∷ []) _ (λ f. spells-get (2 ∷ n ∷ f ∷ []) _ (λ k. spells-get (2 ∷ n ∷ f ∷ k ∷ []) _ (λ m.
     spells-get (2 ∷ n ∷ f ∷ k ∷ m ∷ []) _ (λ g. spells-get (2 ∷ n ∷ f ∷ k ∷ m ∷ g ∷ []) _ (λ j.
-    spells-done (join (record { node = n; offset = f; limit = k }) (record { node = m; offset = g; limit = j }))))))))
+    spells-done (Join (record { node = n; offset = f; limit = k }) (record { node = m; offset = g; limit = j }))))))))
 spells-arguments (suc (suc (suc zero))) =
-    spells-get (3 ∷ []) _ (λ n. spells-get (3 ∷ n ∷ []) _ (λ v. spells-get (3 ∷ n ∷ v ∷ []) _ (λ d. spells-done (request n v d))))
-spells-arguments (suc (suc (suc (suc zero)))) = spells-done close
+    spells-get (3 ∷ []) _ (λ n. spells-get (3 ∷ n ∷ []) _ (λ v. spells-get (3 ∷ n ∷ v ∷ []) _ (λ d. spells-done (Request n v d))))
+spells-arguments (suc (suc (suc (suc zero)))) = spells-done Close
 spells-arguments (suc (suc (suc (suc (suc n))))) = spells-refuse (suc (suc (suc (suc (suc n)))) ∷ []) 5
 
 spells-code : (closed : Bool) → Spells [] (λ bs. get bs (λ c r. elim closed [ true ↦ refuse 4 | false ↦ arguments c r ]))
@@ -199,7 +201,7 @@ proper-arguments (suc zero) = proper-get _ (λ l. proper-done _)
 proper-arguments (suc (suc zero)) =
     proper-get _ (λ n. proper-get _ (λ f. proper-get _ (λ k. proper-get _ (λ m. proper-get _ (λ g. proper-get _ (λ j. proper-done _))))))
 proper-arguments (suc (suc (suc zero))) = proper-get _ (λ n. proper-get _ (λ v. proper-get _ (λ d. proper-done _)))
-proper-arguments (suc (suc (suc (suc zero)))) = proper-done close
+proper-arguments (suc (suc (suc (suc zero)))) = proper-done Close
 proper-arguments (suc (suc (suc (suc (suc n))))) = proper-refuse 5 (omega arith) (omega arith)
 
 proper-code : (closed : Bool) → Proper (λ bs. get bs (λ c r. elim closed [ true ↦ refuse 4 | false ↦ arguments c r ]))
@@ -252,7 +254,7 @@ script-written bs h cs w e z =
 -- ---- a script that meets the hypotheses: a leaf and a close
 
 unfoldable pub leaf-closed : List Command
-leaf-closed = leaf 300 ∷ close ∷ []
+leaf-closed = Leaf 300 ∷ Close ∷ []
 
 unfoldable pub leaf-bytes : List ℕ
 leaf-bytes = 0x80 ∷ 2 ∷ 1 ∷ 1 ∷ 0xac ∷ 2 ∷ 4 ∷ []

@@ -16,7 +16,7 @@ use Rattle.cert.proofs.Rules.{KeyIn}
 use Rattle.cert.proofs.Serving.{clauses-append}
 use Rattle.totlog.specs.Passes.{AllPassed, all-done, all-more}
 use Rattle.totlog.specs.Player.{make, delete, storedSteps, firstNo, questions, act}
-use Rattle.totlog.specs.Script.{Command}
+use Rattle.totlog.specs.declared.Command.{Command}
 use Rattle.totlog.proofs.Sound.{Sound, requests-asked, request-fits, serve-nodes, sound-act, sound-start}
 
 key-more : (t u : List Node) (k : Key) → KeyIn t k → KeyIn (t ++ u) k
@@ -59,20 +59,20 @@ counted-delete h s c =
 
 pub counted-act : (h : Head) (c : Command) (s : State) → firstNo (questions h (s .nodes) c) ≡ 0 → Sound h s → Counted h s → Counted h (act c s)
 unfolding act
-counted-act h (Command.leaf l) s q p k = by (known (s .nodes) l)
+counted-act h (Command.Leaf l) s q p k = by (known (s .nodes) l)
   where
     by : (b : Bool) → Counted h (elim b as (λ _. State) [ true ↦ s | false ↦ make (leaf l) 0 s ])
     by true = k
     by false = counted-make h (leaf l) 0 s k
-counted-act h (Command.join l r) s q p k =
+counted-act h (Command.Join l r) s q p k =
     counted-make h (joined (s .nodes) (s .next-variable) l r) (len (joined (s .nodes) (s .next-variable) l r)) s k
-counted-act h (Command.request n v d) s q p k =
+counted-act h (Command.Request n v d) s q p k =
     let t = s .nodes in
     let ok = sized-ok t (p .sized) in
     let a = requests-asked t n v d (request-fits h t n v d q) in
     subst (λ (x : List Node). CountedIn h x (serve t (requests n v d) s)) (sym (serve-nodes t ok (requests n v d) a s .0))
     (counted-serve h t ok (requests n v d) a s k)
-counted-act h Command.close s q p k = counted-delete h s k
+counted-act h Command.Close s q p k = counted-delete h s k
 
 -- An invariant that each accepted command keeps holds after all.
 pub all-keep : {h : Head} {capacity : ℕ} {cs : List Command} {s u : State} (R : State → Type 0)

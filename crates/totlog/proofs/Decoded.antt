@@ -15,7 +15,8 @@ use Rattle.pb.specs.Sum.{neg}
 use Rattle.memo.proofs.Lists.{flatMap-append}
 use Rattle.record.specs.Record.{Record, derivation, clause, tokenNumbers, steps, deletion, numbers, sum, termNumbers, bytes, decodeLog}
 use Rattle.record.proofs.Decode.{Small, decode-bytes}
-use Rattle.totdb.specs.Nodes.{Node, len, leaf, Side, join, output, leaves, at, sideLen, sideLit, sideOutputs, outputs, range, plainOr, sideLeaves, known, joined}
+use Rattle.totdb.specs.Nodes.{Node, len, leaf, join, output, leaves, at, sideLen, sideLit, sideOutputs, outputs, range, plainOr, sideLeaves, known, joined}
+use Rattle.totdb.specs.declared.Side.{Side}
 use Rattle.cert.specs.Definitions.{Definition, lacking, Direction, oneDef, if, only-if, realDef, stored, real, windowDef, window, longDef, sideDef, definedBy, Key, window-zero, keyRecords}
 use Rattle.cert.specs.Equal.{key-dec}
 use Rattle.cert.specs.Requests.{negPart, posPart, Clause, Request, clausesOf, clausesAt, request, ifClause, splits, onlyIfClause, clauseTokens}
@@ -26,7 +27,7 @@ use Rattle.cert.proofs.Fits.{KeyFits, request-falls, key-falls, looked-fit}
 use Rattle.cert.proofs.Serving.{serve-keeps, Asked}
 use Rattle.totlog.specs.Passes.{AllPassed, all-done, all-more}
 use Rattle.totlog.specs.Player.{make, storedSteps, delete, firstNo, questions, act, headFits}
-use Rattle.totlog.specs.Script.{Command}
+use Rattle.totlog.specs.declared.Command.{Command}
 use Rattle.totlog.proofs.Counts.{counted-act, all-keep}
 use Rattle.totlog.proofs.Refusal.{and-true, start-empty}
 use Rattle.totlog.proofs.Sound.{Sound, request-fits, requests-asked, serve-nodes, requests-right, sound-start}
@@ -352,15 +353,15 @@ delete-low b s p l =
 act-low : (h : Head) (b : ℕ) → h .variable ≤ 1000000 → 2008200 ≤ b → (c : Command) (s : State) → firstNo (questions h (s .nodes) c) ≡ 0 → Sound h s
     → Low h b s → LowIf b (act c s .nodes) (act c s)
 unfolding act
-act-low h b v l (Command.leaf m) s q p k = by (known (s .nodes) m)
+act-low h b v l (Command.Leaf m) s q p k = by (known (s .nodes) m)
   where
     by : (x : Bool) → LowIf b ((elim x as (λ _. State) [ true ↦ s | false ↦ make (leaf m) 0 s ]) .nodes)
         (elim x as (λ _. State) [ true ↦ s | false ↦ make (leaf m) 0 s ])
     by true = k .low
     by false = make-low h b (leaf m) 0 s (k .counted) (k .low)
-act-low h b v l (Command.join x y) s q p k =
+act-low h b v l (Command.Join x y) s q p k =
     make-low h b (joined (s .nodes) (s .next-variable) x y) (len (joined (s .nodes) (s .next-variable) x y)) s (k .counted) (k .low)
-act-low h b v l (Command.request n w d) s q p k =
+act-low h b v l (Command.Request n w d) s q p k =
     let t = s .nodes in
     let f = request-fits h t n w d q in
     let a = requests-asked t n w d f in
@@ -368,7 +369,7 @@ act-low h b v l (Command.request n w d) s q p k =
     subst (λ (x : List Node). LowIf b x (serve t (requests n w d) s)) (sym (serve-nodes t (sized-ok t (p .sized)) (requests n w d) a s .0))
     (serve-low b (omega arith) t (p .sized) (low-nodes h s b p (k .treed) (omega arith) (omega arith)) (k .treed .each) (requests n w d)
     (requests-right t n w d f) a s (k .low))
-act-low h b v l Command.close s q p k = subst (λ (x : List Node). LowIf b x (delete s)) (unfold delete in refl) (delete-low b s (k .low))
+act-low h b v l Command.Close s q p k = subst (λ (x : List Node). LowIf b x (delete s)) (unfold delete in refl) (delete-low b s (k .low))
 
 low-act : (h : Head) (b : ℕ) → h .variable ≤ 1000000 → 2008200 ≤ b → (c : Command) (s : State) → firstNo (questions h (s .nodes) c) ≡ 0 → Sound h s
     → Low h b s → Low h b (act c s)

@@ -28,7 +28,7 @@ use Rattle.cert.proofs.Known.{sumOf, knownOf, KnownIn, sums-length, sums-grow, 
 use Rattle.cert.proofs.Serving.{define-keys, Asked, serve-keeps}
 use Rattle.totlog.specs.Passes.{AllPassed}
 use Rattle.totlog.specs.Player.{make, firstNo, questions, act, delete, storedSteps}
-use Rattle.totlog.specs.Script.{Command}
+use Rattle.totlog.specs.declared.Command.{Command}
 use Rattle.totlog.proofs.Counts.{counted-act, all-keep}
 use Rattle.totlog.proofs.Different.{distinct-act}
 use Rattle.totlog.proofs.Sound.{Sound, request-fits, requests-asked, serve-nodes, requests-right, sound-start}
@@ -350,21 +350,21 @@ meant-make h a n s c k = record {
 
 meant-act : (h : Head) (c : Command) (s : State) → firstNo (questions h (s .nodes) c) ≡ 0 → Sound h s → Told h s → Meant h (act c s .nodes) (act c s)
 unfolding act
-meant-act h (Command.leaf l) s q p k = by (known (s .nodes) l)
+meant-act h (Command.Leaf l) s q p k = by (known (s .nodes) l)
   where
     by : (b : Bool) → Meant h ((elim b as (λ _. State) [ true ↦ s | false ↦ make (leaf l) 0 s ]) .nodes)
         (elim b as (λ _. State) [ true ↦ s | false ↦ make (leaf l) 0 s ])
     by true = k .meant
     by false = meant-make h (leaf l) 0 s (k .counted) (k .meant)
-meant-act h (Command.join x y) s q p k =
+meant-act h (Command.Join x y) s q p k =
     meant-make h (joined (s .nodes) (s .next-variable) x y) (len (joined (s .nodes) (s .next-variable) x y)) s (k .counted) (k .meant)
-meant-act h (Command.request n v d) s q p k =
+meant-act h (Command.Request n v d) s q p k =
     let t = s .nodes in
     let f = request-fits h t n v d q in
     let a = requests-asked t n v d f in
     subst (λ (x : List Node). Meant h x (serve t (requests n v d) s)) (sym (serve-nodes t (sized-ok t (p .sized)) (requests n v d) a s .0))
     (meant-serve h t (p .sized) (k .distinct) (requests n v d) (requests-right t n v d f) a s (k .meant))
-meant-act h Command.close s q p k =
+meant-act h Command.Close s q p k =
     subst (λ (x : List Node). Meant h x (delete s)) (unfold delete in refl)
     (meant-more h (s .nodes) (k .distinct) s (k .meant) (delete s) (deletion (storedSteps (s .nodes) (s .stored)) ∷ []) (unfold delete in refl)
     (unfold delete in refl) (unfold delete steps in omega arith) (λ n l. unfold names in refl) (λ n l. unfold names in refl)

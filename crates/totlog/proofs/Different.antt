@@ -11,13 +11,14 @@ use lib.Dec.{ltb}
 use lib.ListN.{length}
 use Rattle.pb.specs.Sum.{variable, neg}
 use Rattle.pb.proofs.Terms.{same-variable}
-use Rattle.totdb.specs.Nodes.{Node, len, at, output, leaf, taken, leaves, Side, join, range, isOver, sideLeaves, sideLen, sideOutputs, outputs, plainOr, known, leafCount, joined}
+use Rattle.totdb.specs.Nodes.{Node, len, at, output, leaf, taken, leaves, join, range, isOver, sideLeaves, sideLen, sideOutputs, outputs, plainOr, known, leafCount, joined}
+use Rattle.totdb.specs.declared.Side.{Side}
 use Rattle.cert.specs.State.{State, requests, Head}
 use Rattle.cert.proofs.Apart.{range-mem, sized-ok}
 use Rattle.cert.proofs.Distinct.{Different, different-append, LeftApart, Owner, Distinct, true≢false, or-left, or-right, owner-apart, old, distinct-snoc, shifted, higher}
 use Rattle.cert.proofs.Tables.{length-snoc, at-last, taken-snoc, over-left, over-right}
 use Rattle.totlog.specs.Player.{firstNo, questions, ask, act, make, delete}
-use Rattle.totlog.specs.Script.{Command}
+use Rattle.totlog.specs.declared.Command.{Command}
 use Rattle.totlog.proofs.Decoded.{output-low}
 use Rattle.totlog.proofs.Refusal.{and-true}
 use Rattle.totlog.proofs.Sound.{Sound, JoinFits, yes-then, leaf-new, join-fits, serve-nodes, requests-asked, request-fits}
@@ -172,7 +173,7 @@ unfolding output variable
 join-high-variable ls o a b i l v h g x q = omega arith
 
 -- What questions 6 and 7 say of a new literal.
-leaf-questions : (h : Head) (t : List Node) (l : ℕ) → firstNo (questions h t (Command.leaf l)) ≡ 0 → known t l ≡ false → (variable l < h .variable)
+leaf-questions : (h : Head) (t : List Node) (l : ℕ) → firstNo (questions h t (Command.Leaf l)) ≡ 0 → known t l ≡ false → (variable l < h .variable)
     × (known t (neg l) ≡ false)
 leaf-questions h t l q e =
     let a = yes-then 6 (ltb (variable l) (h .variable)) (ask 7 (known t l || (notb (known t (neg l)) && ltb (leafCount t) 64)) ∷ []) (omega arith)
@@ -229,13 +230,13 @@ distinct-same t u e d = subst Distinct (sym e) d
 pub distinct-act : (h : Head) (c : Command) (s : State) → firstNo (questions h (s .nodes) c) ≡ 0 → Sound h s → Distinct (s .nodes)
     → Distinct (act c s .nodes)
 unfolding act
-distinct-act h (Command.leaf l) s q p d = by (known (s .nodes) l) refl
+distinct-act h (Command.Leaf l) s q p d = by (known (s .nodes) l) refl
   where
     by : (b : Bool) → known (s .nodes) l ≡ b → Distinct ((elim b as (λ _. State) [ true ↦ s | false ↦ make (leaf l) 0 s ]) .nodes)
     by true e = d
     by false e = let k = leaf-questions h (s .nodes) l q e in unfold make in distinct-leaf h s p d l (k .0) e (k .1)
-distinct-act h (Command.join l r) s q p d = unfold make joined in distinct-join h s p d l r (join-fits h (s .nodes) l r q)
-distinct-act h (Command.request n v e) s q p d =
+distinct-act h (Command.Join l r) s q p d = unfold make joined in distinct-join h s p d l r (join-fits h (s .nodes) l r q)
+distinct-act h (Command.Request n v e) s q p d =
     let t = s .nodes in
     distinct-same t _ (serve-nodes t (sized-ok t (p .sized)) (requests n v e) (requests-asked t n v e (request-fits h t n v e q)) s .0) d
-distinct-act h Command.close s q p d = unfold delete in d
+distinct-act h Command.Close s q p d = unfold delete in d

@@ -13,7 +13,8 @@ use Rattle.number.specs.Number.{encode}
 use Rattle.pb.specs.Sum.{variable, neg}
 use Rattle.memo.proofs.Lists.{flatMap-append}
 use Rattle.record.specs.Record.{Record, numbers, bytes, steps, clauses, derivation, clause, deletion}
-use Rattle.totdb.specs.Nodes.{Node, Side, leaf, join, at, leaves, len, range, known, leafCount, taken}
+use Rattle.totdb.specs.Nodes.{Node, leaf, join, at, leaves, len, range, known, leafCount, taken}
+use Rattle.totdb.specs.declared.Side.{Side}
 use Rattle.cert.specs.Definitions.{keyRecords}
 use Rattle.cert.specs.Requests.{clauseTokens}
 use Rattle.cert.specs.State.{State, start, stepIn, define, write, hold, requests, Head}
@@ -21,7 +22,8 @@ use Rattle.cert.proofs.Apart.{sized-ok}
 use Rattle.cert.proofs.Serving.{serve-in}
 use Rattle.totlog.specs.Passes.{AllPassed, all-done, all-more, Passes}
 use Rattle.totlog.specs.Player.{firstNo, ask, sideFits, questions, make, storedSteps, delete, act, plays, Outcome, outcome, mostBytes, played}
-use Rattle.totlog.specs.Script.{Command, Commands}
+use Rattle.totlog.specs.Script.{Commands}
+use Rattle.totlog.specs.declared.Command.{Command}
 use Rattle.totlog.proofs.Counts.{all-keep}
 use Rattle.totlog.proofs.Refusal.{play-fits, play-full, plays-done, plays-accepted, plays-refused, outcome-number, start-empty}
 use Rattle.totlog.proofs.Scripts.{accepted-reads, passes-plays, passes-is}
@@ -31,15 +33,15 @@ use Rattle.totlog.proofs.Sound.{Sound, sound-start, sound-act, request-
 
 module _ (h : Head) (t : List Node) (n : ℕ) (there : n < length t) where
   -- Value 0 and every value above the length, the length + 1 among them, give 11, whatever the direction.
-  pub value-zero : (d : ℕ) → firstNo (questions h t (Command.request n 0 d)) ≡ 11
+  pub value-zero : (d : ℕ) → firstNo (questions h t (Command.Request n 0 d)) ≡ 11
   unfolding questions firstNo
   value-zero d = rw (lt-ltb n (length t) there)
 
-  pub value-above : (v d : ℕ) → len (at t n) < v → firstNo (questions h t (Command.request n v d)) ≡ 11
+  pub value-above : (v d : ℕ) → len (at t n) < v → firstNo (questions h t (Command.Request n v d)) ≡ 11
   unfolding questions firstNo
   value-above v d g = rw (lt-ltb n (length t) there, le-leb 1 v (omega arith), lt-leb v (len (at t n)) g)
 
-  pub value-within : (v d : ℕ) → 1 ≤ v → v ≤ len (at t n) → 1 ≤ d → d ≤ 3 → firstNo (questions h t (Command.request n v d)) ≡ 0
+  pub value-within : (v d : ℕ) → 1 ≤ v → v ≤ len (at t n) → 1 ≤ d → d ≤ 3 → firstNo (questions h t (Command.Request n v d)) ≡ 0
   unfolding questions firstNo
   value-within v d g k e f = rw (lt-ltb n (length t) there, le-leb 1 v g, le-leb v (len (at t n)) k, le-leb 1 d e, le-leb d 3 f)
 
@@ -91,22 +93,22 @@ outside t s (whole e f) =
     last-no false = refl
 
 module _ (h : Head) (t : List Node) (l r : Side) (free : Free t l r) where
-  asked-ten : firstNo (questions h t (Command.join l r)) ≡ firstNo (ask 10 (sideFits t l && sideFits t r) ∷ [])
+  asked-ten : firstNo (questions h t (Command.Join l r)) ≡ firstNo (ask 10 (sideFits t l && sideFits t r) ∷ [])
   unfolding questions firstNo
   asked-ten =
       let left : ltb (l .node) (length t) ≡ true = lt-ltb (l .node) (length t) (free .left) in
       let right : ltb (r .node) (length t) ≡ true = lt-ltb (r .node) (length t) (free .right) in
       rw (left, right, ne-eqb (l .node) (r .node) (free .apart), free .left-free, free .right-free)
 
-  pub sides-inside : Inside t l → Inside t r → firstNo (questions h t (Command.join l r)) ≡ 0
+  pub sides-inside : Inside t l → Inside t r → firstNo (questions h t (Command.Join l r)) ≡ 0
   unfolding firstNo
   sides-inside i j = asked-ten ∙ rw (inside t l i, inside t r j)
 
-  pub left-outside : Outside t l → firstNo (questions h t (Command.join l r)) ≡ 10
+  pub left-outside : Outside t l → firstNo (questions h t (Command.Join l r)) ≡ 10
   unfolding firstNo
   left-outside o = asked-ten ∙ rw (outside t l o)
 
-  pub right-outside : Outside t r → firstNo (questions h t (Command.join l r)) ≡ 10
+  pub right-outside : Outside t r → firstNo (questions h t (Command.Join l r)) ≡ 10
   unfolding firstNo
   right-outside o = asked-ten ∙ rw (outside t r o) (by (sideFits t l))
     where
@@ -121,22 +123,22 @@ plain-inside t s e f h = record { below = omega arith; within = omega arith; not
 -- Beside a plain side and with no limit, the length - 1 is the last offset that passes.
 module _ (h : Head) (t : List Node) (l r : Side) (free : Free t l r) (unlimited : l .limit ≡ 0)
     (r-offset : r .offset ≡ 0) (r-limit : r .limit ≡ 0) (r-some : 1 ≤ len (at t (r .node))) where
-  pub offset-last : l .offset + 1 ≡ len (at t (l .node)) → firstNo (questions h t (Command.join l r)) ≡ 0
+  pub offset-last : l .offset + 1 ≡ len (at t (l .node)) → firstNo (questions h t (Command.Join l r)) ≡ 0
   offset-last e =
       sides-inside h t l r free (record { below = omega arith; within = omega arith; not-whole = λ _ k. omega arith })
       (plain-inside t r r-offset r-limit r-some)
 
-  pub offset-length : l .offset ≡ len (at t (l .node)) → firstNo (questions h t (Command.join l r)) ≡ 10
+  pub offset-length : l .offset ≡ len (at t (l .node)) → firstNo (questions h t (Command.Join l r)) ≡ 10
   offset-length e = left-outside h t l r free (offset-high (omega arith))
 
 -- ---- the leaves
 
 module _ (h : Head) (t : List Node) (l : ℕ) (low : variable l < h .variable) (new : known t l ≡ false) (new-negated : known t (neg l) ≡ false) where
-  pub leaves-few : leafCount t < 64 → firstNo (questions h t (Command.leaf l)) ≡ 0
+  pub leaves-few : leafCount t < 64 → firstNo (questions h t (Command.Leaf l)) ≡ 0
   unfolding questions firstNo
   leaves-few k = rw (lt-ltb (variable l) (h .variable) low, new, new-negated, lt-ltb (leafCount t) 64 k)
 
-  pub leaves-full : 64 ≤ leafCount t → firstNo (questions h t (Command.leaf l)) ≡ 7
+  pub leaves-full : 64 ≤ leafCount t → firstNo (questions h t (Command.Leaf l)) ≡ 7
   unfolding questions firstNo
   leaves-full k = rw (lt-ltb (variable l) (h .variable) low, new, new-negated, le-ltb (leafCount t) 64 k)
 
@@ -151,19 +153,19 @@ bytes-grow n rs qs h =
 grown-act : (n : ℕ) (h : Head) (c : Command) (s : State) → firstNo (questions h (s .nodes) c) ≡ 0 → Sound h s → n ≤ length (bytes (s .log))
     → n ≤ length (bytes (act c s .log))
 unfolding act make define write hold delete
-grown-act n h (Command.leaf l) s q p g = by (known (s .nodes) l)
+grown-act n h (Command.Leaf l) s q p g = by (known (s .nodes) l)
   where
     by : (b : Bool) → n ≤ length (bytes ((elim b as (λ _. State) [ true ↦ s | false ↦ make (leaf l) 0 s ]) .log))
     by true = g
     by false = g
-grown-act n h (Command.join l r) s q p g = g
-grown-act n h (Command.request m v d) s q p g =
+grown-act n h (Command.Join l r) s q p g = g
+grown-act n h (Command.Request m v d) s q p g =
     let t = s .nodes in
     serve-in t (sized-ok t (p .sized)) (λ (u : State). n ≤ length (bytes (u .log)))
     (λ k u i r. bytes-grow n (u .log) (keyRecords (stepIn (u .stored)) t k) r)
     (λ c u r. bytes-grow n (u .log) (derivation (clauseTokens (stepIn (u .stored)) c) ∷ clause (u .next-step) (c .literals) ∷ []) r) (λ x u r. r)
     (requests m v d) (requests-asked t m v d (request-fits h t m v d q)) s g
-grown-act n h Command.close s q p g = bytes-grow n (s .log) (deletion (storedSteps (s .nodes) (s .stored)) ∷ []) g
+grown-act n h Command.Close s q p g = bytes-grow n (s .log) (deletion (storedSteps (s .nodes) (s .stored)) ∷ []) g
 
 -- ---- a run that passes, with another capacity
 
@@ -259,15 +261,15 @@ ten = record { variable = 10; step = 1 }
 three : List Node
 three = leaf 0 ∷ leaf 2 ∷ leaf 4 ∷ leaf 6 ∷ join (0 ∷ 2 ∷ []) 10 (side 0 0 0) (side 1 0 0) ∷ join (0 ∷ 2 ∷ 4 ∷ []) 12 (side 4 0 0) (side 2 0 0) ∷ []
 
-met-zero : firstNo (questions ten three (Command.request 5 0 1)) ≡ 11
+met-zero : firstNo (questions ten three (Command.Request 5 0 1)) ≡ 11
 unfolding three
 met-zero = value-zero ten three 5 (omega arith) 1
 
-met-above : firstNo (questions ten three (Command.request 5 4 9)) ≡ 11
+met-above : firstNo (questions ten three (Command.Request 5 4 9)) ≡ 11
 unfolding three len at leaves
 met-above = value-above ten three 5 (omega arith) 4 9 (omega arith)
 
-met-within : firstNo (questions ten three (Command.request 5 3 3)) ≡ 0
+met-within : firstNo (questions ten three (Command.Request 5 3 3)) ≡ 0
 unfolding three len at leaves
 met-within = value-within ten three 5 (omega arith) 3 3 (omega arith) (omega arith) (omega arith) (omega arith)
 
@@ -275,29 +277,29 @@ free-three : (f k g j : ℕ) → Free three (side 5 f k) (side 3 g j)
 unfolding three taken side
 free-three f k g j = record { left = omega arith; right = omega arith; apart = λ e. omega arith; left-free = refl; right-free = refl }
 
-met-last : firstNo (questions ten three (Command.join (side 5 2 0) (side 3 0 0))) ≡ 0
+met-last : firstNo (questions ten three (Command.Join (side 5 2 0) (side 3 0 0))) ≡ 0
 unfolding three len at leaves side
 met-last = offset-last ten three (side 5 2 0) (side 3 0 0) (free-three 2 0 0 0) refl refl refl (omega arith) refl
 
-met-length : firstNo (questions ten three (Command.join (side 5 3 0) (side 3 0 0))) ≡ 10
+met-length : firstNo (questions ten three (Command.Join (side 5 3 0) (side 3 0 0))) ≡ 10
 unfolding three len at leaves side
 met-length = offset-length ten three (side 5 3 0) (side 3 0 0) (free-three 3 0 0 0) refl refl refl (omega arith) refl
 
-met-inside : firstNo (questions ten three (Command.join (side 5 1 2) (side 3 0 0))) ≡ 0
+met-inside : firstNo (questions ten three (Command.Join (side 5 1 2) (side 3 0 0))) ≡ 0
 unfolding three len at leaves side
 met-inside =
     sides-inside ten three (side 5 1 2) (side 3 0 0) (free-three 1 2 0 0)
     (record { below = omega arith; within = omega arith; not-whole = λ e _. omega arith }) (plain-inside three (side 3 0 0) refl refl (omega arith))
 
-met-left : firstNo (questions ten three (Command.join (side 5 1 3) (side 3 0 0))) ≡ 10
+met-left : firstNo (questions ten three (Command.Join (side 5 1 3) (side 3 0 0))) ≡ 10
 unfolding three len at leaves side
 met-left = left-outside ten three (side 5 1 3) (side 3 0 0) (free-three 1 3 0 0) (limit-high (omega arith))
 
-met-right : firstNo (questions ten three (Command.join (side 5 0 0) (side 3 0 1))) ≡ 10
+met-right : firstNo (questions ten three (Command.Join (side 5 0 0) (side 3 0 1))) ≡ 10
 unfolding three len at leaves side
 met-right = right-outside ten three (side 5 0 0) (side 3 0 1) (free-three 0 0 0 1) (whole refl refl)
 
-met-few : firstNo (questions ten three (Command.leaf 8)) ≡ 0
+met-few : firstNo (questions ten three (Command.Leaf 8)) ≡ 0
 unfolding three variable neg known leafCount ten
 met-few = leaves-few ten three 8 (omega arith) refl refl (omega arith)
 
@@ -305,7 +307,7 @@ met-few = leaves-few ten three 8 (omega arith) refl refl (omega arith)
 even : ℕ → List Node
 even n = map {B = Node} (λ (i : ℕ). leaf (2 * i)) (range 0 n)
 
-met-full : firstNo (questions (record { variable = 65; step = 1 }) (even 64) (Command.leaf 129)) ≡ 7
+met-full : firstNo (questions (record { variable = 65; step = 1 }) (even 64) (Command.Leaf 129)) ≡ 7
 unfolding even variable neg known leafCount range
 met-full = leaves-full (record { variable = 65; step = 1 }) (even 64) 129 (omega arith) refl refl (omega arith)
 

@@ -1,5 +1,6 @@
 -- Theorems about scripts and the player.
 pub mod Reading
+pub mod Places
 pub mod Coding
 pub mod Refusal
 pub mod Sound

@@ -19,7 +19,7 @@ use Rattle.cert.proofs.Rules.{counters, counters-grow}
 use Rattle.cert.proofs.Serving.{view}
 use Rattle.totlog.specs.Called.{Closure, Called, KeyCalled, table, asked, build, makes}
 use Rattle.totlog.specs.Passes.{AllPassed}
-use Rattle.totlog.specs.Script.{Command}
+use Rattle.totlog.specs.declared.Command.{Command}
 use Rattle.totlog.proofs.Counts.{all-counted}
 use Rattle.totlog.proofs.Runs.{Ran, all-ran, build-makes}
 use Rattle.totlog.proofs.Sound.{sound-start, Sound}

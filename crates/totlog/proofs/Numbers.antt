@@ -8,7 +8,8 @@ use lib.ListN.{length}
 use Rattle.totdb.specs.Nodes.{Node}
 use Rattle.cert.specs.State.{Head, State}
 use Rattle.totlog.specs.Player.{Question, ask, firstNo, questions, lastQuestions, act, Result, accepted, refused, verdict, play, plays}
-use Rattle.totlog.specs.Script.{Command, Next, command, refuse, end, readCommand, closes, stop, before, readCommands, Commands, script, readScript}
+use Rattle.totlog.specs.Script.{Next, command, refuse, end, readCommand, closes, stop, before, readCommands, Commands, script, readScript}
+use Rattle.totlog.specs.declared.Command.{Command}
 use Rattle.totlog.proofs.Coding.{refused-number}
 use Rattle.totlog.proofs.Refusal.{head-read, outcome-number, plays-done, plays-ended, plays-accepted, plays-refused}
 
@@ -25,10 +26,10 @@ first-most m (ask n false ∷ qs) h = h .0
 
 questions-most : (h : Head) (t : List Node) (c : Command) → firstNo (questions h t c) ≤ 14
 unfolding questions Most
-questions-most h t (Command.leaf l) = first-most 14 _ (omega arith, (omega arith, tt))
-questions-most h t (Command.join l r) = first-most 14 _ (omega arith, (omega arith, (omega arith, tt)))
-questions-most h t (Command.request n v d) = first-most 14 _ (omega arith, (omega arith, (omega arith, tt)))
-questions-most h t Command.close = first-most 14 [] tt
+questions-most h t (Command.Leaf l) = first-most 14 _ (omega arith, (omega arith, tt))
+questions-most h t (Command.Join l r) = first-most 14 _ (omega arith, (omega arith, (omega arith, tt)))
+questions-most h t (Command.Request n v d) = first-most 14 _ (omega arith, (omega arith, (omega arith, tt)))
+questions-most h t Command.Close = first-most 14 [] tt
 
 last-most : (capacity : ℕ) (s u : State) → firstNo (lastQuestions capacity s u) ≤ 14
 unfolding lastQuestions Most

@@ -8,7 +8,8 @@ use native.Mathlib.Omega.{arith}
 use lib.Dec.{ltb}
 use lib.ListN.{length, take, length-append}
 use Rattle.number.specs.Number.{groups, Front, number, bad, above, readIn, read}
-use Rattle.totlog.specs.Script.{Next, Command, command, refuse, get, arguments, readCommand, readCommands, closes, before, Commands, stop, end}
+use Rattle.totlog.specs.Script.{Next, command, refuse, get, arguments, readCommand, readCommands, closes, before, Commands, stop, end}
+use Rattle.totlog.specs.declared.Command.{Command}
 
 -- What a number takes from the front: it reads the same before any other bytes.
 read-local : (g : ℕ) (bs : List ℕ) (x : ℕ) (rest : List ℕ) → readIn g bs ≡ number x rest → (front : List ℕ) × (bs ≡ front ++ rest)

@@ -14,7 +14,8 @@ use Rattle.record.specs.Record.{bytes}
 use Rattle.cert.specs.State.{State, start, Head}
 use Rattle.totlog.specs.Passes.{Passed}
 use Rattle.totlog.specs.Player.{verdict, accepted, refused, firstNo, ask, questions, act, anyLacks, lastQuestions, play, Result, plays, outcome, ended, Outcome, refusedAtHead, headFits, playScript, mostBytes, played, Padded, unrefused}
-use Rattle.totlog.specs.Script.{Command, Commands, script, headless, readScript, Script, readCommands}
+use Rattle.totlog.specs.Script.{Commands, script, headless, readScript, Script, readCommands}
+use Rattle.totlog.specs.declared.Command.{Command}
 use Rattle.totlog.proofs.Reading.{read-front, commands-cut}
 
 -- ---- an accepted command

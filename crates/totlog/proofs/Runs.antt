@@ -10,7 +10,8 @@ use lib.Seq.{append-snoc}
 use Rattle.memo.proofs.Grow.{Cmd, Run, made, wanted, run-make, want, run-want, run-done}
 use Rattle.memo.proofs.Memo.{Log}
 use Rattle.record.specs.Record.{clauses, deletion}
-use Rattle.totdb.specs.Nodes.{Node, known, joined, len, leaf, Side}
+use Rattle.totdb.specs.Nodes.{Node, known, joined, len, leaf}
+use Rattle.totdb.specs.declared.Side.{Side}
 use Rattle.cert.specs.Definitions.{Key}
 use Rattle.cert.specs.Requests.{Request}
 use Rattle.cert.specs.State.{requests, State, keys, serve, Head}
@@ -21,22 +22,22 @@ use Rattle.cert.proofs.Tables.{right-more}
 use Rattle.totlog.specs.Called.{makes, asked, build}
 use Rattle.totlog.specs.Passes.{AllPassed, all-done, all-more}
 use Rattle.totlog.specs.Player.{plays, outcome, play, Result, refused, accepted, make, delete, storedSteps, firstNo, questions, act}
-use Rattle.totlog.specs.Script.{Command}
+use Rattle.totlog.specs.declared.Command.{Command}
 use Rattle.totlog.proofs.Refusal.{play-fits, plays-done, outcome-number, plays-ended, play-refused, plays-refused, plays-accepted, play-passed}
 use Rattle.totlog.proofs.Sound.{Sound, RequestFits, requests-asked, serve-nodes, requests-right, request-fits, sound-act}
 
 pub build-makes : (cs : List Command) (t : List Node) (o : ℕ) → build cs t o ≡ build (makes cs) t o
 unfolding build makes
 build-makes [] t o = refl
-build-makes (Command.leaf l ∷ cs) t o = by (known t l) refl (build-makes cs t o) (build-makes cs (t ++ (leaf l ∷ [])) o)
+build-makes (Command.Leaf l ∷ cs) t o = by (known t l) refl (build-makes cs t o) (build-makes cs (t ++ (leaf l ∷ [])) o)
   where
     by : (b : Bool) → known t l ≡ b → build cs t o ≡ build (makes cs) t o → build cs (t ++ (leaf l ∷ [])) o ≡ build (makes cs) (t ++ (leaf l ∷ [])) o
-        → build (Command.leaf l ∷ cs) t o ≡ build (Command.leaf l ∷ makes cs) t o
+        → build (Command.Leaf l ∷ cs) t o ≡ build (Command.Leaf l ∷ makes cs) t o
     by true e f g = rw (e, build) f
     by false e f g = rw (e, build) g
-build-makes (Command.join l r ∷ cs) t o = build-makes cs _ _
-build-makes (Command.request n v d ∷ cs) t o = build-makes cs t o
-build-makes (Command.close ∷ cs) t o = build-makes cs t o
+build-makes (Command.Join l r ∷ cs) t o = build-makes cs _ _
+build-makes (Command.Request n v d ∷ cs) t o = build-makes cs t o
+build-makes (Command.Close ∷ cs) t o = build-makes cs t o
 
 -- ---- all commands accepted
 
@@ -94,17 +95,17 @@ unfolding view delete keys
 view-delete s = ap {B = Log Request Key (List ℕ) ℕ} (λ (l : List (List ℕ)). record { items = s .held; keys = keys s; clauses = l; summed = [] })
     (delete-clauses s)
 
-build-known : (l : ℕ) (cs : List Command) (t : List Node) (o : ℕ) → known t l ≡ true → build (Command.leaf l ∷ cs) t o ≡ build cs t o
+build-known : (l : ℕ) (cs : List Command) (t : List Node) (o : ℕ) → known t l ≡ true → build (Command.Leaf l ∷ cs) t o ≡ build cs t o
 unfolding build
 build-known l cs t o e = rw (e, build)
 
 build-new : (l : ℕ) (cs : List Command) (t : List Node) (o : ℕ) → known t l ≡ false
-    → build (Command.leaf l ∷ cs) t o ≡ build cs (t ++ (leaf l ∷ [])) o
+    → build (Command.Leaf l ∷ cs) t o ≡ build cs (t ++ (leaf l ∷ [])) o
 unfolding build
 build-new l cs t o e = rw (e, build)
 
 module _ (h : Head) (cs : List Command) (w : State) where
-  ran-known : (l : ℕ) (s : State) → known (s .nodes) l ≡ true → Ran cs s w → Ran (Command.leaf l ∷ cs) s w
+  ran-known : (l : ℕ) (s : State) → known (s .nodes) l ≡ true → Ran cs s w → Ran (Command.Leaf l ∷ cs) s w
   unfolding asked
   ran-known l s e r = record {
     commands = r .commands;
@@ -116,7 +117,7 @@ module _ (h : Head) (cs : List Command) (w : State) where
         ∙ sym (build-known l cs (s .nodes) (s .next-variable) e);
   }
 
-  ran-new : (l : ℕ) (s : State) → known (s .nodes) l ≡ false → Ran cs (make (leaf l) 0 s) w → Ran (Command.leaf l ∷ cs) s w
+  ran-new : (l : ℕ) (s : State) → known (s .nodes) l ≡ false → Ran cs (make (leaf l) 0 s) w → Ran (Command.Leaf l ∷ cs) s w
   unfolding asked make view keys made wanted
   ran-new l s e r = record {
     commands = Cmd.make (leaf l) ∷ r .commands;
@@ -128,7 +129,7 @@ module _ (h : Head) (cs : List Command) (w : State) where
   }
 
   ran-join : (l r : Side) (s : State) → Ran cs (make (joined (s .nodes) (s .next-variable) l r) (len (joined (s .nodes) (s .next-variable) l r)) s) w
-      → Ran (Command.join l r ∷ cs) s w
+      → Ran (Command.Join l r ∷ cs) s w
   unfolding asked make view keys made wanted build
   ran-join l r s k = record {
     commands = Cmd.make (joined (s .nodes) (s .next-variable) l r) ∷ k .commands;
@@ -140,7 +141,7 @@ module _ (h : Head) (cs : List Command) (w : State) where
   }
 
   ran-request : (n v d : ℕ) (s : State) → Sound h s → RequestFits (s .nodes) n v d → Ran cs (serve (s .nodes) (requests n v d) s) w
-      → Ran (Command.request n v d ∷ cs) s w
+      → Ran (Command.Request n v d ∷ cs) s w
   unfolding asked made wanted build
   ran-request n v d s p f r =
       let t = s .nodes in
@@ -159,7 +160,7 @@ module _ (h : Head) (cs : List Command) (w : State) where
         built = r .built ∙ rw (e .0, e .1);
       }
 
-  ran-close : (s : State) → Ran cs (delete s) w → Ran (Command.close ∷ cs) s w
+  ran-close : (s : State) → Ran cs (delete s) w → Ran (Command.Close ∷ cs) s w
   unfolding asked build
   ran-close s r = record {
     commands = r .commands;
@@ -172,15 +173,15 @@ module _ (h : Head) (cs : List Command) (w : State) where
 
   ran-one : (c : Command) (s : State) → firstNo (questions h (s .nodes) c) ≡ 0 → Sound h s → Ran cs (act c s) w → Ran (c ∷ cs) s w
   unfolding act
-  ran-one (Command.leaf l) s q p r = by (known (s .nodes) l) refl r
+  ran-one (Command.Leaf l) s q p r = by (known (s .nodes) l) refl r
     where
       by : (b : Bool) → known (s .nodes) l ≡ b → Ran cs (elim b as (λ _. State) [ true ↦ s | false ↦ make (leaf l) 0 s ]) w
-          → Ran (Command.leaf l ∷ cs) s w
+          → Ran (Command.Leaf l ∷ cs) s w
       by true e k = ran-known l s e k
       by false e k = ran-new l s e k
-  ran-one (Command.join l r) s q p k = ran-join l r s k
-  ran-one (Command.request n v d) s q p k = ran-request n v d s p (request-fits h (s .nodes) n v d q) k
-  ran-one Command.close s q p k = ran-close s k
+  ran-one (Command.Join l r) s q p k = ran-join l r s k
+  ran-one (Command.Request n v d) s q p k = ran-request n v d s p (request-fits h (s .nodes) n v d q) k
+  ran-one Command.Close s q p k = ran-close s k
 
 pub all-ran : {h : Head} {capacity : ℕ} {cs : List Command} {s u : State} → AllPassed h capacity cs s u → Sound h s → Ran cs s u × Sound h u
 unfolding made wanted asked build

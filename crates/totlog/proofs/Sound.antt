@@ -10,7 +10,8 @@ use lib.Dec.{T, leb, ltb, eqb, eqb-refl}
 use lib.ListN.{length, length-append, length-map}
 use Rattle.pb.specs.Sum.{variable}
 use Rattle.memo.proofs.Lists.{not-mem}
-use Rattle.totdb.specs.Nodes.{Node, any, at, range, limited, plainOr, Side, sideLeaves, sideLen, sideOutputs, outputs, output, len, leaves, join, known, leaf, leafOf, taken, joined}
+use Rattle.totdb.specs.Nodes.{Node, any, at, range, limited, plainOr, sideLeaves, sideLen, sideOutputs, outputs, output, len, leaves, join, known, leaf, leafOf, taken, joined}
+use Rattle.totdb.specs.declared.Side.{Side}
 use Rattle.cert.specs.Definitions.{if, only-if, Direction}
 use Rattle.cert.specs.Requests.{Request, nodeOf, request}
 use Rattle.cert.specs.State.{State, start, requests, directions, serve, define, write, hold, Head}
@@ -19,7 +20,7 @@ use Rattle.cert.proofs.Rules.{In, Ok}
 use Rattle.cert.proofs.Serving.{Asked, serve-in}
 use Rattle.cert.proofs.Tables.{sized-nil, numbered-nil, sized-snoc, numbered-leaf, old-or-new, numbered-join}
 use Rattle.totlog.specs.Player.{Question, firstNo, ask, sideFits, questions, make, act, delete}
-use Rattle.totlog.specs.Script.{Command}
+use Rattle.totlog.specs.declared.Command.{Command}
 use Rattle.totlog.proofs.Refusal.{and-true}
 
 -- ---- tests
@@ -129,7 +130,7 @@ low-literal : (l v : ℕ) → variable l < v → l < 2 * v
 unfolding variable
 low-literal l v h = omega arith
 
-sound-leaf : (h : Head) (l : ℕ) (s : State) → firstNo (questions h (s .nodes) (Command.leaf l)) ≡ 0 → known (s .nodes) l ≡ false → Sound h s
+sound-leaf : (h : Head) (l : ℕ) (s : State) → firstNo (questions h (s .nodes) (Command.Leaf l)) ≡ 0 → known (s .nodes) l ≡ false → Sound h s
     → Sound h (make (leaf l) 0 s)
 unfolding make questions
 sound-leaf h l s q new p =
@@ -157,7 +158,7 @@ pub record JoinFits (t : List Node) (l r : Side) : Type 0 where
   pub left-some : l .offset < len (at t (l .node))
   pub right-some : r .offset < len (at t (r .node))
 
-pub join-fits : (h : Head) (t : List Node) (l r : Side) → firstNo (questions h t (Command.join l r)) ≡ 0 → JoinFits t l r
+pub join-fits : (h : Head) (t : List Node) (l r : Side) → firstNo (questions h t (Command.Join l r)) ≡ 0 → JoinFits t l r
 join-fits h t l r q =
     let a = yes-then 8 (ltb (l .node) (length t) && ltb (r .node) (length t))
     (ask 9 (notb (eqb (l .node) (r .node)) && notb (taken t (l .node)) && notb (taken t (r .node))) ∷ ask 10 (sideFits t l && sideFits t r) ∷ [])
@@ -218,7 +219,7 @@ pub record RequestFits (t : List Node) (n v d : ℕ) : Type 0 where
   pub dir-low : 1 ≤ d
   pub dir-high : d ≤ 3
 
-pub request-fits : (h : Head) (t : List Node) (n v d : ℕ) → firstNo (questions h t (Command.request n v d)) ≡ 0 → RequestFits t n v d
+pub request-fits : (h : Head) (t : List Node) (n v d : ℕ) → firstNo (questions h t (Command.Request n v d)) ≡ 0 → RequestFits t n v d
 request-fits h t n v d q =
     let a = yes-then 8 (ltb n (length t)) (ask 11 (leb 1 v && leb v (len (at t n))) ∷ ask 12 (leb 1 d && leb d 3) ∷ []) (omega arith)
     (unfold questions in q) in
@@ -289,14 +290,14 @@ serve-nodes t ok xs a s =
 
 pub sound-act : (h : Head) (c : Command) (s : State) → firstNo (questions h (s .nodes) c) ≡ 0 → Sound h s → Sound h (act c s)
 unfolding act
-sound-act h (Command.leaf l) s q p = by (known (s .nodes) l) refl
+sound-act h (Command.Leaf l) s q p = by (known (s .nodes) l) refl
   where
     by : (b : Bool) → known (s .nodes) l ≡ b → Sound h (elim b as (λ _. State) [ true ↦ s | false ↦ make (leaf l) 0 s ])
     by true e = p
     by false e = sound-leaf h l s q e p
-sound-act h (Command.join l r) s q p = sound-join h l r s (join-fits h (s .nodes) l r q) p
-sound-act h (Command.request n v d) s q p =
+sound-act h (Command.Join l r) s q p = sound-join h l r s (join-fits h (s .nodes) l r q) p
+sound-act h (Command.Request n v d) s q p =
     let k = serve-nodes (s .nodes) (sized-ok (s .nodes) (p .sized)) (requests n v d)
     (requests-asked (s .nodes) n v d (request-fits h (s .nodes) n v d q)) s in
     sound-same h s (serve (s .nodes) (requests n v d) s) (k .0) (k .1) p
-sound-act h Command.close s q p = sound-same h s (delete s) (unfold delete in refl) (unfold delete in refl) p
+sound-act h Command.Close s q p = sound-same h s (delete s) (unfold delete in refl) (unfold delete in refl) p

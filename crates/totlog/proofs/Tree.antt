@@ -11,13 +11,14 @@ use borrow.Author.Tests.{ltb-true, eq-eqb, ne-eqb}
 use lib.Dec.{eqb, ltb}
 use lib.ListN.{length, length-append}
 use Rattle.pb.specs.Sum.{variable, neg}
-use Rattle.totdb.specs.Nodes.{Node, taken, at, any, isOver, Side, join, leaf, leafCount, len, known, leaves, joined, sideLeaves, sideLen}
+use Rattle.totdb.specs.Nodes.{Node, taken, at, any, isOver, join, leaf, leafCount, len, known, leaves, joined, sideLeaves, sideLen}
+use Rattle.totdb.specs.declared.Side.{Side}
 use Rattle.cert.specs.State.{State, start, requests, serve, Head}
 use Rattle.cert.proofs.Apart.{sized-ok}
 use Rattle.cert.proofs.Rules.{Ok, Below, at-more}
 use Rattle.cert.proofs.Tables.{at-last, length-snoc, at-snoc, taken-snoc, over-left, over-right}
 use Rattle.totlog.specs.Player.{firstNo, questions, ask, make, act, delete}
-use Rattle.totlog.specs.Script.{Command}
+use Rattle.totlog.specs.declared.Command.{Command}
 use Rattle.totlog.proofs.Refusal.{and-true}
 use Rattle.totlog.proofs.Sound.{yes-then, Sound, JoinFits, sideLeaves-length, join-fits, serve-nodes, requests-asked, request-fits}
 
@@ -185,7 +186,7 @@ leafCount-join [] ls o l r = refl
 leafCount-join (leaf m ∷ t) ls o l r = ap suc (leafCount-join t ls o l r)
 leafCount-join (join ms p a b ∷ t) ls o l r = leafCount-join t ls o l r
 
-few-leaves : (h : Head) (t : List Node) (l : ℕ) → firstNo (questions h t (Command.leaf l)) ≡ 0 → known t l ≡ false → leafCount t < 64
+few-leaves : (h : Head) (t : List Node) (l : ℕ) → firstNo (questions h t (Command.Leaf l)) ≡ 0 → known t l ≡ false → leafCount t < 64
 few-leaves h t l q e =
     let a = yes-then 6 (ltb (variable l) (h .variable)) (ask 7 (known t l || (notb (known t (neg l)) && ltb (leafCount t) 64)) ∷ []) (omega arith)
     (unfold questions in q) in
@@ -194,7 +195,7 @@ few-leaves h t l q e =
     subst (λ (x : Bool). (x || (notb (known t (neg l)) && ltb (leafCount t) 64)) ≡ true) e (b .0) in
     ltb-true (leafCount t) 64 (and-true (notb (known t (neg l))) (ltb (leafCount t) 64) c .1)
 
-treed-leaf : (h : Head) (l : ℕ) (s : State) → firstNo (questions h (s .nodes) (Command.leaf l)) ≡ 0 → known (s .nodes) l ≡ false → Sound h s
+treed-leaf : (h : Head) (l : ℕ) (s : State) → firstNo (questions h (s .nodes) (Command.Leaf l)) ≡ 0 → known (s .nodes) l ≡ false → Sound h s
     → Treed h s → Treed h (make (leaf l) 0 s)
 unfolding make one len leaves
 treed-leaf h l s q e p k =
@@ -239,17 +240,17 @@ treed-same h s u e f k = record { few = rw e (k .few); short = rw e (k .short); 
 
 pub treed-act : (h : Head) (c : Command) (s : State) → firstNo (questions h (s .nodes) c) ≡ 0 → Sound h s → Treed h s → Treed h (act c s)
 unfolding act
-treed-act h (Command.leaf l) s q p k = by (known (s .nodes) l) refl
+treed-act h (Command.Leaf l) s q p k = by (known (s .nodes) l) refl
   where
     by : (b : Bool) → known (s .nodes) l ≡ b → Treed h (elim b as (λ _. State) [ true ↦ s | false ↦ make (leaf l) 0 s ])
     by true e = k
     by false e = treed-leaf h l s q e p k
-treed-act h (Command.join l r) s q p k = treed-join h l r s (join-fits h (s .nodes) l r q) p k
-treed-act h (Command.request n v d) s q p k =
+treed-act h (Command.Join l r) s q p k = treed-join h l r s (join-fits h (s .nodes) l r q) p k
+treed-act h (Command.Request n v d) s q p k =
     let t = s .nodes in
     let e = serve-nodes t (sized-ok t (p .sized)) (requests n v d) (requests-asked t n v d (request-fits h t n v d q)) s in
     treed-same h s (serve t (requests n v d) s) (e .0) (e .1) k
-treed-act h Command.close s q p k = treed-same h s (delete s) (unfold delete in refl) (unfold delete in refl) k
+treed-act h Command.Close s q p k = treed-same h s (delete s) (unfold delete in refl) (unfold delete in refl) k
 
 -- The variables of a table stay within 4096 of the first.
 pub few-variables : {h : Head} {s : State} → Treed h s → s .next-variable ≤ h .variable + 4096

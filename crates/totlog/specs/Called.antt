@@ -7,33 +7,33 @@ use Rattle.totdb.specs.Nodes.{Node, leaf, len, joined, known}
 use Rattle.cert.specs.Definitions.{Key, pulls}
 use Rattle.cert.specs.Requests.{Request, needs, literalsOf, lookups}
 use Rattle.cert.specs.State.{requests, Head}
-use Rattle.totlog.specs.Script.{Command}
+use Rattle.totlog.specs.declared.Command.{Command}
 
 -- The leaf and join commands, in order.
 unfoldable pub makes : List Command → List Command
 makes [] = []
-makes (Command.leaf l ∷ cs) = Command.leaf l ∷ makes cs
-makes (Command.join l r ∷ cs) = Command.join l r ∷ makes cs
-makes (Command.request n v d ∷ cs) = makes cs
-makes (Command.close ∷ cs) = makes cs
+makes (Command.Leaf l ∷ cs) = Command.Leaf l ∷ makes cs
+makes (Command.Join l r ∷ cs) = Command.Join l r ∷ makes cs
+makes (Command.Request n v d ∷ cs) = makes cs
+makes (Command.Close ∷ cs) = makes cs
 
 -- The node, value and direction of each request, both as the two.
 unfoldable pub asked : List Command → List Request
 unfolding requests
 asked [] = []
-asked (Command.leaf l ∷ cs) = asked cs
-asked (Command.join l r ∷ cs) = asked cs
-asked (Command.request n v d ∷ cs) = requests n v d ++ asked cs
-asked (Command.close ∷ cs) = asked cs
+asked (Command.Leaf l ∷ cs) = asked cs
+asked (Command.Join l r ∷ cs) = asked cs
+asked (Command.Request n v d ∷ cs) = requests n v d ++ asked cs
+asked (Command.Close ∷ cs) = asked cs
 
 -- The table that the commands make after t, their outputs on the variables from o up.
 unfoldable pub build : List Command → List Node → ℕ → List Node
 unfolding known joined len
 build [] t o = t
-build (Command.leaf l ∷ cs) t o = elim (known t l) [ true ↦ build cs t o | false ↦ build cs (t ++ (leaf l ∷ [])) o ]
-build (Command.join l r ∷ cs) t o = build cs (t ++ (joined t o l r ∷ [])) (o + len (joined t o l r))
-build (Command.request n v d ∷ cs) t o = build cs t o
-build (Command.close ∷ cs) t o = build cs t o
+build (Command.Leaf l ∷ cs) t o = elim (known t l) [ true ↦ build cs t o | false ↦ build cs (t ++ (leaf l ∷ [])) o ]
+build (Command.Join l r ∷ cs) t o = build cs (t ++ (joined t o l r ∷ [])) (o + len (joined t o l r))
+build (Command.Request n v d ∷ cs) t o = build cs t o
+build (Command.Close ∷ cs) t o = build cs t o
 
 unfoldable pub table : Head → List Command → List Node
 unfolding build

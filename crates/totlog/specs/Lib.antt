@@ -1,4 +1,5 @@
 pub mod Script
+pub mod Places
 pub mod Player
 pub mod Passes
 pub mod Called

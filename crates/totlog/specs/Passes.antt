@@ -7,7 +7,8 @@ use lib.ListN.{length, drop}
 use Rattle.record.specs.Record.{bytes}
 use Rattle.cert.specs.State.{State, start, Head}
 use Rattle.totlog.specs.Player.{firstNo, questions, anyLacks, act, headFits, mostBytes}
-use Rattle.totlog.specs.Script.{Command, Commands, script, readScript}
+use Rattle.totlog.specs.Script.{Commands, script, readScript}
+use Rattle.totlog.specs.declared.Command.{Command}
 
 -- A command passes questions 6 to 12 in a state, and 13 and 14 in the state after it.
 pub record Passed (h : Head) (capacity : ℕ) (c : Command) (s u : State) : Type 0 where

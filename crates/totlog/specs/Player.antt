@@ -7,11 +7,13 @@ use lib.Dec.{leb, ltb, eqb}
 use lib.ListN.{length, drop, replicate}
 use Rattle.pb.specs.Sum.{variable, neg}
 use Rattle.record.specs.Record.{deletion, bytes, steps, clauses}
-use Rattle.totdb.specs.Nodes.{Side, Node, leaf, at, len, joined, range, any, known, leafCount, taken}
+use Rattle.totdb.specs.Nodes.{Node, leaf, at, len, joined, range, any, known, leafCount, taken}
+use Rattle.totdb.specs.declared.Side.{Side}
 use Rattle.cert.specs.Definitions.{keyRecords}
 use Rattle.cert.specs.Requests.{Request, clausesOf, lacksOne}
 use Rattle.cert.specs.State.{Stored, State, start, serve, requests, Head}
-use Rattle.totlog.specs.Script.{Command, Script, script, headless, readScript}
+use Rattle.totlog.specs.Script.{Script, script, headless, readScript}
+use Rattle.totlog.specs.declared.Command.{Command}
 
 -- ---- questions
 
@@ -36,21 +38,21 @@ sideFits t s =
 -- Questions 6 to 12.
 unfoldable pub questions : Head → List Node → Command → List Question
 unfolding variable neg known taken leafCount at len sideFits
-questions h t (Command.leaf l) =
+questions h t (Command.Leaf l) =
     ask 6 (ltb (variable l) (h .variable))
     ∷ ask 7 (known t l || (notb (known t (neg l)) && ltb (leafCount t) 64))
     ∷ []
-questions h t (Command.join l r) =
+questions h t (Command.Join l r) =
     ask 8 (ltb (l .node) (length t) && ltb (r .node) (length t))
     ∷ ask 9 (notb (eqb (l .node) (r .node)) && notb (taken t (l .node)) && notb (taken t (r .node)))
     ∷ ask 10 (sideFits t l && sideFits t r)
     ∷ []
-questions h t (Command.request n v d) =
+questions h t (Command.Request n v d) =
     ask 8 (ltb n (length t))
     ∷ ask 11 (leb 1 v && leb v (len (at t n)))
     ∷ ask 12 (leb 1 d && leb d 3)
     ∷ []
-questions h t Command.close = []
+questions h t Command.Close = []
 
 -- Question 13, of the requests xs: a definition that their clauses look up lacks the direction wanted.
 unfoldable pub anyLacks : List Node → List Request → Bool
@@ -88,10 +90,10 @@ delete s = record {
 -- What a command does that passes questions 6 to 12. A leaf literal seen before makes no new node; a join reserves all its outputs.
 unfoldable pub act : Command → State → State
 unfolding known make joined len serve requests delete
-act (Command.leaf l) s = elim (known (s .nodes) l) [ true ↦ s | false ↦ make (leaf l) 0 s ]
-act (Command.join l r) s = let a = joined (s .nodes) (s .next-variable) l r in make a (len a) s
-act (Command.request n v d) s = serve (s .nodes) (requests n v d) s
-act Command.close s = delete s
+act (Command.Leaf l) s = elim (known (s .nodes) l) [ true ↦ s | false ↦ make (leaf l) 0 s ]
+act (Command.Join l r) s = let a = joined (s .nodes) (s .next-variable) l r in make a (len a) s
+act (Command.Request n v d) s = serve (s .nodes) (requests n v d) s
+act Command.Close s = delete s
 
 pub data Result : Type 0 where
   accepted : State → Result

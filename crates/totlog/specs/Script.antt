@@ -4,15 +4,10 @@ use mathlib.Core.List.{List, [], _∷_, flatMap}
 use Prim.Native.Nat.{ℕ, zero, suc}
 use lib.ListN.{length}
 use Rattle.number.specs.Number.{encodeIn, encode, number, bad, above, readIn, read}
-use Rattle.totdb.specs.Nodes.{Side}
+use Rattle.totdb.specs.declared.Side.{Side}
 use Rattle.cert.specs.State.{Head}
-
--- A leaf with its literal; a join of two sides; a request of a node's value in a direction (1 if, 2 only-if, 3 both); a close.
-pub data Command : Type 0 where
-  leaf : ℕ → Command
-  join : Side → Side → Command
-  request : ℕ → ℕ → ℕ → Command
-  close : Command
+use Rattle.totlog.specs.declared.Command.{Command}
+use Rattle.totlog.specs.declared.Command.the-variants.{Leaf, Join, Request, Close}
 
 -- A command and the bytes after it; or the number of the question that it fails; or the script ends, where a code would stand.
 pub data Next : Type 0 where
@@ -25,16 +20,17 @@ unfoldable pub get : List ℕ → (ℕ → List ℕ → Next) → Next
 unfolding readIn above
 get bs f = elim (read bs) [ number x rest ↦ f x rest | bad ↦ refuse 2 ]
 
+abbrev pub getSide : List ℕ → (Side → List ℕ → Next) → Next
+getSide bs g = get bs (λ n r. get r (λ f r. get r (λ k r. g (record { node = n; offset = f; limit = k }) r)))
+
 -- Question 5, then the numbers that follow the code.
 unfoldable pub arguments : ℕ → List ℕ → Next
 unfolding get
 arguments zero bs = refuse 5
-arguments (suc zero) bs = get bs (λ l r. command (leaf l) r)
-arguments (suc (suc zero)) bs =
-    get bs (λ n r. get r (λ f r. get r (λ k r. get r (λ m r. get r (λ g r. get r (λ j r.
-    command (join (record { node = n; offset = f; limit = k }) (record { node = m; offset = g; limit = j })) r))))))
-arguments (suc (suc (suc zero))) bs = get bs (λ n r. get r (λ v r. get r (λ d r. command (request n v d) r)))
-arguments (suc (suc (suc (suc zero)))) bs = command close bs
+arguments (suc zero) bs = get bs (λ l r. command (Leaf l) r)
+arguments (suc (suc zero)) bs = getSide bs (λ l r. getSide r (λ m r. command (Join l m) r))
+arguments (suc (suc (suc zero))) bs = get bs (λ n r. get r (λ v r. get r (λ d r. command (Request n v d) r)))
+arguments (suc (suc (suc (suc zero)))) bs = command Close bs
 arguments (suc (suc (suc (suc (suc c))))) bs = refuse 5
 
 -- Question 4, once the code is read.
@@ -44,10 +40,10 @@ readCommand closed [] = end
 readCommand closed (b ∷ bs) = get (b ∷ bs) (λ c r. elim closed [ true ↦ refuse 4 | false ↦ arguments c r ])
 
 unfoldable pub closes : Command → Bool
-closes (leaf l) = false
-closes (join l r) = false
-closes (request n v d) = false
-closes close = true
+closes (Leaf l) = false
+closes (Join l r) = false
+closes (Request n v d) = false
+closes Close = true
 
 -- The commands that read, and the number of the question that stops the reading: 0 where the script ends where a code would stand.
 pub record Commands : Type 0 where
@@ -83,10 +79,10 @@ readScript bs =
 -- ---- and back
 
 unfoldable pub commandNumbers : Command → List ℕ
-commandNumbers (leaf l) = 1 ∷ l ∷ []
-commandNumbers (join l r) = 2 ∷ l .node ∷ l .offset ∷ l .limit ∷ r .node ∷ r .offset ∷ r .limit ∷ []
-commandNumbers (request n v d) = 3 ∷ n ∷ v ∷ d ∷ []
-commandNumbers close = 4 ∷ []
+commandNumbers (Leaf l) = 1 ∷ l ∷ []
+commandNumbers (Join l r) = 2 ∷ l .node ∷ l .offset ∷ l .limit ∷ r .node ∷ r .offset ∷ r .limit ∷ []
+commandNumbers (Request n v d) = 3 ∷ n ∷ v ∷ d ∷ []
+commandNumbers Close = 4 ∷ []
 
 -- The bytes of a script.
 unfoldable pub scriptBytes : Head → List Command → List ℕ

@@ -1,0 +1,2 @@
+-- What the code of sides rests on.
+pub mod Sides

@@ -1,0 +1,54 @@
+-- The rules of a side, case by case, as its code has them.
+use mathlib.Core.Path.{_≡_, refl}
+use mathlib.Core.Bool.{true, false}
+use mathlib.Core.List.{List}
+use Prim.Native.Nat.{ℕ, zero, suc, _-_, _*_, _≤_, _<_}
+use native.Mathlib.Omega.{arith}
+use borrow.Author.Tests.{ne-eqb}
+use lib.Dec.{eqb}
+use Rattle.totdb.specs.Nodes.{leaf, join, output, fromFirst, limited, lengthOver, plainOr}
+use Rattle.totdb.specs.declared.Side.{Side}
+
+limited-set : (k n : ℕ) → 0 < k → limited k n ≡ k
+unfolding limited
+limited-set zero n h = absurd (omega arith)
+limited-set (suc k) n h = refl
+
+limited-none : (k n : ℕ) → k ≡ 0 → limited k n ≡ n
+unfolding limited
+limited-none zero n h = refl
+limited-none (suc k) n h = absurd (omega arith)
+
+module _ (s : Side) (n : ℕ) where
+  pub length-limit : 0 < s .limit → lengthOver s n ≡ s .limit
+  length-limit h = limited-set (s .limit) (n - s .offset) h
+
+  pub length-rest : s .limit ≡ 0 → lengthOver s n ≡ n - s .offset
+  length-rest h = limited-none (s .limit) (n - s .offset) h
+
+-- By the limit where the offset is 0; by the offset where it is not.
+module _ (f k : ℕ) where
+  pub plain-limit : f ≡ 0 → eqb k 0 ≡ plainOr f k true false
+  unfolding plainOr
+  plain-limit h = rw h (by-limit k)
+    where
+      by-limit : (k : ℕ) → eqb k 0 ≡ plainOr 0 k true false
+      by-limit zero = refl
+      by-limit (suc k) = ne-eqb (suc k) 0 (omega arith)
+
+  pub plain-offset : 0 < f → eqb f 0 ≡ plainOr f k true false
+  unfolding plainOr
+  plain-offset h = by-offset f h
+    where
+      by-offset : (f : ℕ) → 0 < f → eqb f 0 ≡ plainOr f k true false
+      by-offset zero h = absurd (omega arith)
+      by-offset (suc f) h = ne-eqb (suc f) 0 (omega arith)
+
+-- The outputs of a node, from its first.
+pub join-outputs : (ls : List ℕ) (o : ℕ) (l r : Side) (i : ℕ) → 1 ≤ i → output (join ls o l r) i ≡ fromFirst (2 * o) i
+unfolding output fromFirst
+join-outputs ls o l r i h = omega arith
+
+pub leaf-output : (l : ℕ) → output (leaf l) 1 ≡ fromFirst l 1
+unfolding output fromFirst
+leaf-output l = omega arith
