@@ -2,6 +2,7 @@
 pub mod Totalizer
 pub mod WindowSums
 pub mod Derivations
+pub mod Summands
 pub mod WindowDerivations
 pub mod ClauseDerivations
 pub mod Rules
@@ -16,4 +17,5 @@ pub mod Sides
 pub mod SideTokens
 pub mod Schema
 pub mod SchemaCases
+pub mod SummandsCases
 pub mod Answers

@@ -1,10 +1,9 @@
 -- The derivations of a window come to its definitions.
 use mathlib.Core.Path.{_≡_, refl, sym, _∙_, ap, subst}
-use mathlib.Core.Logic.{_≢_, _⊎_, inl, inr, dite}
+use mathlib.Core.Logic.{_≢_, _⊎_, inl, inr}
 use mathlib.Core.List.{List, [], _∷_, _++_, map, map-append, List·Memᴰ, List·Memᴰ·head, List·Memᴰ·tail}
 use mathlib.Core.Option.{Option, some}
 use Prim.Native.Nat.{ℕ, zero, suc, _+_, _-_, min, _≤_, _<_}
-use native.Mathlib.Decide.{decLt}
 use native.Mathlib.Omega.{arith}
 use lib.ListN.{length, length-map, length-append}
 use Rattle.pb.specs.Rules.{Token, literal, step, add, divide, saturate, literalAxiom, evaluate}
@@ -16,6 +15,7 @@ use Rattle.totdb.specs.Nodes.{range, Node, output}
 use Rattle.cert.specs.Definitions.{Key, real, ifPart, onlyIfPart, outputsBefore, outputsAfter, windowIfOf, total, windowIfSum, windowOnlyIfOf, windowOnlyIfSum}
 use Rattle.cert.proofs.Apart.{range-mem, length-range}
 use Rattle.cert.proofs.Derivations.{Gives, Parts, parts-done, parts-more, Room, clean-room, gives-as, gives-saturate, gives-divide, gives-add, gives-step, parts-append, gives-literal, parts-skip, coef-total, gives-parts, clean-less, evaluate-gives}
+use Rattle.cert.proofs.Summands.{if-low, if-high, if-own, only-if-low, only-if-high, only-if-own}
 use Rattle.cert.proofs.Totalizer.{real-if, if-at, real-only-if, only-if-at, piece, piece-back}
 use Rattle.cert.proofs.WindowSums.{clause-swap, total as totalSum, axioms-at, pieces-at, negs-at, window-if-clean, total-append, if-total, window-only-if-clean, only-if-total}
 
@@ -88,43 +88,6 @@ module _ (sums : ℕ → Option Sum) (at-step : Key → ℕ → ℕ) (n : ℕ) (
     (differ : (s v : ℕ) → f < s → s ≤ f + m → f < v → v ≤ f + m → s ≢ v → variable (output x s) ≢ variable (output x v))
     (ifs : (s : ℕ) → f < s → s ≤ f + m → sums (at-step (real n s) 0) ≡ some (normal (real-if ls (output x s) s)))
     (onlys : (s : ℕ) → f < s → s ≤ f + m → sums (at-step (real n s) 1) ≡ some (normal (real-only-if ls (output x s) s))) where
-  ifPart-low : (v s : ℕ) → s < v → ifPart at-step n x v s ≡ literal (neg (output x s)) ∷ []
-  unfolding ifPart
-  ifPart-low v s h = by (decLt s v)
-    where
-      by : (c : Dec (s < v))
-          → dite {C = List Token} c (λ _. literal (neg (output x s)) ∷ [])
-          (λ _. dite {C = List Token} (decLt v s)
-          (λ _. step (at-step (real n v) 0) ∷ step (at-step (real n s) 1) ∷ add ∷ divide (s - v + 1) ∷ saturate ∷ []) (λ _. [])) ≡ literal
-          (neg (output x s)) ∷ []
-      by (yes e) = refl
-      by (no e) = absurd (e h)
-
-  ifPart-own : (v : ℕ) → ifPart at-step n x v v ≡ []
-  unfolding ifPart
-  ifPart-own v = by (decLt v v) (decLt v v)
-    where
-      by : (c d : Dec (v < v))
-          → dite {C = List Token} c (λ _. literal (neg (output x v)) ∷ [])
-          (λ _. dite {C = List Token} d (λ _. step (at-step (real n v) 0) ∷ step (at-step (real n v) 1) ∷ add ∷ divide (v - v + 1) ∷ saturate ∷ [])
-          (λ _. [])) ≡ []
-      by (yes e) d = absurd (omega arith)
-      by (no e) (yes g) = absurd (omega arith)
-      by (no e) (no g) = refl
-
-  ifPart-high : (v s : ℕ) → v < s
-      → ifPart at-step n x v s ≡ step (at-step (real n v) 0) ∷ step (at-step (real n s) 1) ∷ add ∷ divide (s - v + 1) ∷ saturate ∷ []
-  unfolding ifPart
-  ifPart-high v s h = by (decLt s v) (decLt v s)
-    where
-      by : (c : Dec (s < v)) (d : Dec (v < s))
-          → dite {C = List Token} c (λ _. literal (neg (output x s)) ∷ [])
-          (λ _. dite {C = List Token} d (λ _. step (at-step (real n v) 0) ∷ step (at-step (real n s) 1) ∷ add ∷ divide (s - v + 1) ∷ saturate ∷ [])
-          (λ _. [])) ≡ step (at-step (real n v) 0) ∷ step (at-step (real n s) 1) ∷ add ∷ divide (s - v + 1) ∷ saturate ∷ []
-      by (yes e) d = absurd (omega arith)
-      by (no e) (yes g) = refl
-      by (no e) (no g) = absurd (g h)
-
   real-room : (s v : ℕ) → f < s → s ≤ f + m → Room (real-if ls (output x s) v) × Room (real-only-if ls (output x s) v)
   real-room s v h l = (
     clean-room _ (real-if-clean ls (output x s) apart (off s h l) v),
@@ -143,40 +106,6 @@ module _ (sums : ℕ → Option Sum) (at-step : Key → ℕ → ℕ) (n : ℕ) (
       (gives-saturate (gives-divide (s - v + 1) (omega arith)
       (gives-add (gives-step (at-step (real n v) 0) (real-if ls (output x v) v) (ifs v h hv))
       (gives-step (at-step (real n s) 1) (real-only-if ls (output x s) s) (onlys s hs j)) (real-room v v h hv .0) (real-room s s hs j .1))))
-
-  onlyIfPart-low : (v s : ℕ) → s < v
-      → onlyIfPart at-step n x v s ≡ step (at-step (real n v) 1) ∷ step (at-step (real n s) 0) ∷ add ∷ divide (v - s + 1) ∷ saturate ∷ []
-  unfolding onlyIfPart
-  onlyIfPart-low v s h = by (decLt s v)
-    where
-      by : (c : Dec (s < v))
-          → dite {C = List Token} c (λ _. step (at-step (real n v) 1) ∷ step (at-step (real n s) 0) ∷ add ∷ divide (v - s + 1) ∷ saturate ∷ [])
-          (λ _. dite {C = List Token} (decLt v s) (λ _. literal (output x s) ∷ []) (λ _. [])) ≡ step (at-step (real n v) 1) ∷ step
-          (at-step (real n s) 0) ∷ add ∷ divide (v - s + 1) ∷ saturate ∷ []
-      by (yes e) = refl
-      by (no e) = absurd (e h)
-
-  onlyIfPart-own : (v : ℕ) → onlyIfPart at-step n x v v ≡ []
-  unfolding onlyIfPart
-  onlyIfPart-own v = by (decLt v v) (decLt v v)
-    where
-      by : (c d : Dec (v < v))
-          → dite {C = List Token} c (λ _. step (at-step (real n v) 1) ∷ step (at-step (real n v) 0) ∷ add ∷ divide (v - v + 1) ∷ saturate ∷ [])
-          (λ _. dite {C = List Token} d (λ _. literal (output x v) ∷ []) (λ _. [])) ≡ []
-      by (yes e) d = absurd (omega arith)
-      by (no e) (yes g) = absurd (omega arith)
-      by (no e) (no g) = refl
-
-  onlyIfPart-high : (v s : ℕ) → v < s → onlyIfPart at-step n x v s ≡ literal (output x s) ∷ []
-  unfolding onlyIfPart
-  onlyIfPart-high v s h = by (decLt s v) (decLt v s)
-    where
-      by : (c : Dec (s < v)) (d : Dec (v < s))
-          → dite {C = List Token} c (λ _. step (at-step (real n v) 1) ∷ step (at-step (real n s) 0) ∷ add ∷ divide (v - s + 1) ∷ saturate ∷ [])
-          (λ _. dite {C = List Token} d (λ _. literal (output x s) ∷ []) (λ _. [])) ≡ literal (output x s) ∷ []
-      by (yes e) d = absurd (omega arith)
-      by (no e) (yes g) = refl
-      by (no e) (no g) = absurd (g h)
 
   only-piece : (v s : ℕ) → f < s → s < v → v ≤ f + m
       → Gives sums (step (at-step (real n v) 1) ∷ step (at-step (real n s) 0) ∷ add ∷ divide (v - s + 1) ∷ saturate ∷ [])
@@ -206,20 +135,20 @@ module _ (sums : ℕ → Option Sum) (at-step : Key → ℕ → ℕ) (n : ℕ) (
         rw (
           range-around f m v low high,
           map-append (ifPart at-step n x v) (range (f + 1) (v - (f + 1))) (v ∷ range (v + 1) (f + m - v)),
-          ifPart-own v,
+          if-own at-step n x v v (omega arith) (omega arith),
         )
         (parts-append
         (parts-map (ifPart at-step n x v) (λ s. literalAxiom (neg (output x s))) (range (f + 1) (v - (f + 1)))
         (λ s i. (
           literal (neg (output x s)),
           [],
-          ifPart-low v s (omega (arith, range-mem (f + 1) (v - (f + 1)) s i)),
+          if-low at-step n x v s (omega (arith, range-mem (f + 1) (v - (f + 1)) s i)),
           gives-literal
               (neg (output x s)),
         )))
         (parts-skip (parts-map (ifPart at-step n x v) (λ s. clauseSum (output x v ∷ neg (output x s) ∷ [])) (range (v + 1) (f + m - v))
         (λ s i. let k = range-mem (v + 1) (f + m - v) s i in
-        (step (at-step (real n v) 0), _, ifPart-high v s (omega (arith, k)), if-piece v s low (omega (arith, k)) (omega (arith, k)))))))
+        (step (at-step (real n v) 0), _, if-high at-step n x v s (omega (arith, k)), if-piece v s low (omega (arith, k)) (omega (arith, k)))))))
 
     if-coefs : (l : ℕ) → coef
         (totalSum (map (λ s. literalAxiom (neg (output x s))) xs ++ map (λ s. clauseSum (output x v ∷ neg (output x s) ∷ [])) ys) .terms) l ≡ coef
@@ -261,14 +190,14 @@ module _ (sums : ℕ → Option Sum) (at-step : Key → ℕ → ℕ) (n : ℕ) (
         rw (
           range-around f m v low high,
           map-append (onlyIfPart at-step n x v) (range (f + 1) (v - (f + 1))) (v ∷ range (v + 1) (f + m - v)),
-          onlyIfPart-own v,
+          only-if-own at-step n x v v (omega arith) (omega arith),
         )
         (parts-append
         (parts-map (onlyIfPart at-step n x v) (λ s. clauseSum (neg (output x v) ∷ output x s ∷ [])) (range (f + 1) (v - (f + 1)))
         (λ s i. let k = range-mem (f + 1) (v - (f + 1)) s i in
-        (step (at-step (real n v) 1), _, onlyIfPart-low v s (omega (arith, k)), only-piece v s (omega (arith, k)) (omega (arith, k)) high)))
+        (step (at-step (real n v) 1), _, only-if-low at-step n x v s (omega (arith, k)), only-piece v s (omega (arith, k)) (omega (arith, k)) high)))
         (parts-skip (parts-map (onlyIfPart at-step n x v) (λ s. literalAxiom (output x s)) (range (v + 1) (f + m - v))
-        (λ s i. (literal (output x s), [], onlyIfPart-high v s (omega (arith, range-mem (v + 1) (f + m - v) s i)), gives-literal (output x s))))))
+        (λ s i. (literal (output x s), [], only-if-high at-step n x v s (omega (arith, range-mem (v + 1) (f + m - v) s i)), gives-literal (output x s))))))
 
     only-coefs : (l : ℕ)
         → coef (totalSum (map (λ s. clauseSum (neg (output x v) ∷ output x s ∷ [])) xs ++ map (λ s. literalAxiom (output x s)) ys) .terms) l ≡ coef

@@ -2,5 +2,6 @@
 pub mod Answers
 pub mod Decode
 pub mod Sums
+pub mod Tokens
 pub mod Writing
 pub mod WritingCases

@@ -13,6 +13,7 @@ use Rattle.pb.specs.Sum.{Term, _·_, neg, units}
 use Rattle.memo.proofs.Lists.{map-twice, flatMap-append}
 use Rattle.record.specs.Record.{Record, termNumbers, tokenNumbers, sum, derivation, clause, deletion, numbers, bytes}
 use Rattle.record.proofs.Decode.{Small}
+use Rattle.record.proofs.Tokens.{tokens-append}
 use Rattle.totdb.specs.Nodes.{Node, leaves, len, output, range, at, outputs}
 use Rattle.cert.specs.Definitions.{atLeastZero, realIf, realOnlyIf, realRecords, addSequence, total, Definition, nothing, axiom-of, stored, lacking, Key, ifPart, real, onlyIfPart, windowIf, windowOnlyIf, keyRecords, window-zero, window}
 use Rattle.cert.specs.Requests.{defTokens, Clause, clauseTokens}
@@ -187,15 +188,6 @@ realRecords-below b x (suc v) p = by (decLt (len x) (suc v))
 
 abbrev TokensBelow : ℕ → List Token → Type 0
 TokensBelow b ks = AllBelow b (tokenNumbers ks)
-
-tokens-append : (ks js : List Token) → tokenNumbers (ks ++ js) ≡ tokenNumbers ks ++ tokenNumbers js
-unfolding tokenNumbers
-tokens-append [] js = refl
-tokens-append (step n ∷ ks) js = ap {B = List ℕ} (λ (l : List ℕ). 0 ∷ n ∷ l) (tokens-append ks js)
-tokens-append (literal n ∷ ks) js = ap {B = List ℕ} (λ (l : List ℕ). 1 ∷ n ∷ l) (tokens-append ks js)
-tokens-append (add ∷ ks) js = ap {B = List ℕ} (λ (l : List ℕ). 2 ∷ l) (tokens-append ks js)
-tokens-append (divide n ∷ ks) js = ap {B = List ℕ} (λ (l : List ℕ). 3 ∷ n ∷ l) (tokens-append ks js)
-tokens-append (saturate ∷ ks) js = ap {B = List ℕ} (λ (l : List ℕ). 4 ∷ l) (tokens-append ks js)
 
 join-below : (b : ℕ) (ks js : List Token) → TokensBelow b ks → TokensBelow b js → TokensBelow b (ks ++ js)
 join-below b ks js p q = subst (AllBelow b) (sym (tokens-append ks js)) (below-append b (tokenNumbers ks) (tokenNumbers js) p q)

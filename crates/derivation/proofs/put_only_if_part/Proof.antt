@@ -1,0 +1,61 @@
+-- `derivation::put_only_if_part` meets its contract: each case is one of `onlyIfPart`.
+use borrow.Author.Needs.{needs}
+use Rattle.record.specs.Record.{tokenNumbers}
+use Rattle.record.proofs.Writing.{nothing}
+use Rattle.derivation.specs.Operands.{tokens}
+use Rattle.cert.proofs.Summands.{only-if-low, only-if-high, only-if-own}
+use Rattle.derivation.proofs.put_only_if_part.Statement.{statement}
+use Rattle.derivation.proofs.put_only_if_part.Tie as tie
+
+sub-put-divided : tie.Need-sub-put-divided
+sub-put-divided c = search needs
+
+add-put-divided : tie.Need-add-put-divided
+add-put-divided c = search needs
+
+put-divided-requires : tie.Need-put-divided-requires
+put-divided-requires c κs = search needs
+
+same-length : tie.Need-same-length
+same-length c = search needs
+
+returns : tie.Need-returns
+returns c = λ step-at n x p q e.
+    let wrote = c .before .before in
+    let test = wrote .before .before in
+    let a = test .before .before .args in
+    rw (only-if-low step-at n x (a .v) (a .s) (test .if1 .taken), p, q) (wrote .put-divided .ensures)
+
+put-definition-requires : tie.Need-put-definition-requires
+put-definition-requires c κs = search needs
+
+same-length-2 : tie.Need-same-length-2
+same-length-2 c = search needs
+
+returns-2 : tie.Need-returns-2
+unfolding tokenNumbers tokens
+returns-2 c = λ step-at n x p q e.
+    let wrote = c .before .before in
+    let test = wrote .before .before in
+    let a = test .before .before .before .args in
+    rw (only-if-high step-at n x (a .v) (a .s) (test .if2 .taken), e) (wrote .put-definition .ensures)
+
+returns-3 : tie.Need-returns-3
+unfolding tokenNumbers
+returns-3 c = λ step-at n x p q e.
+    let a = c .before .before .before .args in
+    rw (only-if-own step-at n x (a .v) (a .s) (c .before .if1 .left) (c .if2 .left)) nothing
+
+pub put-only-if-part-spec : {M : Type 1} → statement M
+put-only-if-part-spec =
+    tie.close
+    (tie.spec
+    sub-put-divided
+    add-put-divided
+    put-divided-requires
+    same-length
+    returns
+    put-definition-requires
+    same-length-2
+    returns-2
+    returns-3)

@@ -1,0 +1,30 @@
+-- What the code is handed for a clause's two records: the definitions that its step adds up, and the parts of the clause.
+use mathlib.Core.List.{List, [], _∷_, _++_}
+use Prim.Native.Nat.{ℕ}
+use Rattle.pb.specs.Rules.{Token, step, literal, saturate}
+use Rattle.cert.specs.Definitions.{Key, Definition, nothing, axiom-of, stored, lacking, addSequence}
+use Rattle.derivation.specs.declared.Part.{Part}
+use Rattle.derivation.specs.declared.Part.the-variants.{Absent, Literal}
+use Rattle.derivation.specs.declared.SemDefinition.{SemDefinition}
+use Rattle.derivation.specs.declared.SemDefinition.the-variants.{None, Step, Axiom}
+
+-- A definition with its step looked up. `at-step` gives the step of each place of a key.
+unfoldable pub operand : (Key → ℕ → ℕ) → Definition → SemDefinition
+operand at-step nothing = None
+operand at-step (axiom-of l) = Axiom l
+operand at-step (stored k i) = Step (at-step k i)
+operand at-step lacking = None
+
+unfoldable pub tokens : SemDefinition → List Token
+tokens None = []
+tokens (Step n) = step n ∷ []
+tokens (Axiom l) = literal l ∷ []
+
+-- This definition, plus left, plus right, saturated.
+unfoldable pub stepTokens : SemDefinition → SemDefinition → SemDefinition → List Token
+unfolding tokens addSequence
+stepTokens this left right = addSequence (addSequence (tokens this) (tokens left)) (tokens right) ++ (saturate ∷ [])
+
+unfoldable pub part : Part → List ℕ
+part Absent = []
+part (Literal l) = l ∷ []
