@@ -11,7 +11,7 @@ use Rattle.pb.specs.Sum.{Term, _·_, neg, units, keep}
 use Rattle.record.specs.Record.{termNumbers, numbers, sum}
 use Rattle.record.specs.Writing.{signed}
 
-terms-append : (ts us : List Term) → termNumbers (ts ++ us) ≡ termNumbers ts ++ termNumbers us
+pub terms-append : (ts us : List Term) → termNumbers (ts ++ us) ≡ termNumbers ts ++ termNumbers us
 unfolding termNumbers
 terms-append [] us = refl
 terms-append ((a · l) ∷ ts) us = ap (λ (ns : List ℕ). a ∷ l ∷ ns) (terms-append ts us)

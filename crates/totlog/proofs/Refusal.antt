@@ -5,8 +5,8 @@ use mathlib.Core.Bool.{Bool, true, false, _&&_, not as notb}
 use mathlib.Core.List.{List, [], _∷_, _++_, append-assoc}
 use Prim.Native.Nat.{ℕ, zero, suc, _+_, _-_, _≤_, _<_}
 use native.Mathlib.Omega.{arith}
-use borrow.Author.Tests.{not-true, le-leb, lt-leb}
-use lib.Dec.{leb, leb→le, le→leb, T}
+use borrow.Author.Tests.{not-true, le-leb, lt-leb, leb-true}
+use lib.Dec.{leb}
 use lib.ListN.{length, take, drop, replicate, length-append, length-replicate}
 use lib.Seq.{drop-append-seam}
 use Rattle.number.specs.Number.{number, read, Front, bad}
@@ -43,8 +43,7 @@ last-passed capacity s u q = let p =
     two-yes 13 14 (notb (anyLacks (u .nodes) (drop (length (s .held)) (u .held)))) (leb (length (bytes (u .log))) capacity) (omega arith)
     (omega arith) q in (
       not-true (anyLacks (u .nodes) (drop (length (s .held)) (u .held))) (p .0),
-      leb→le (length (bytes (u .log))) capacity
-          (subst T (sym (p .1)) tt),
+      leb-true (length (bytes (u .log))) capacity (p .1),
     )
 
 pub play-passed : (h : Head) (capacity : ℕ) (c : Command) (s u : State) → play h capacity c s ≡ accepted u → Passed h capacity c s u
@@ -228,12 +227,8 @@ and-true true true e = (refl, refl)
 and-true true false e = absurd (let z : _≡_ {A = ℕ} 0 1 = cc in omega arith)
 and-true false b e = absurd (let z : _≡_ {A = ℕ} 0 1 = cc in omega arith)
 
-T-true : (b : Bool) → T b → b ≡ true
-T-true true t = refl
-T-true false t = absurd t
-
 leb-less : (m n k : ℕ) → n ≤ m → leb m k ≡ true → leb n k ≡ true
-leb-less m n k h e = let l : m ≤ k = leb→le m k (subst T (sym e) tt) in T-true (leb n k) (le→leb n k (omega arith))
+leb-less m n k h e = le-leb n k (omega (arith, leb-true m k e))
 
 pub script-is : (bs : List ℕ) (v : ℕ) (r : List ℕ) (s : ℕ) (t : List ℕ) → read bs ≡ number v r → read r ≡ number s t
     → readScript bs ≡ script (record { variable = v; step = s }) (readCommands (length t) false t)

@@ -5,8 +5,8 @@ use mathlib.Core.Logic.{⊎-elim, _≢_}
 use mathlib.Core.List.{List, [], _∷_, _++_, map, List·Memᴰ, List·Memᴰ·cases-cons, List·Memᴰ·not-nil, List·Memᴰ·eq-of-singleton, nodup-nil, nodup-cons}
 use Prim.Native.Nat.{ℕ, zero, suc, _+_, _-_, _*_, _≤_, _<_}
 use native.Mathlib.Omega.{arith}
-use borrow.Author.Tests.{not-true, ltb-true, leb-true}
-use lib.Dec.{T, leb, ltb, eqb, eqb-refl}
+use borrow.Author.Tests.{not-true, ltb-true, leb-true, eq-eqb}
+use lib.Dec.{leb, ltb, eqb}
 use lib.ListN.{length, length-append, length-map}
 use Rattle.pb.specs.Sum.{variable}
 use Rattle.memo.proofs.Lists.{not-mem}
@@ -15,7 +15,8 @@ use Rattle.totdb.specs.declared.Side.{Side}
 use Rattle.cert.specs.Definitions.{if, only-if, Direction}
 use Rattle.cert.specs.Requests.{Request, nodeOf, request}
 use Rattle.cert.specs.State.{State, start, requests, directions, serve, define, write, hold, Head}
-use Rattle.cert.proofs.Apart.{Sized, Numbered, Fit, Right, sized-ok}
+use Rattle.cert.proofs.Apart.{Sized, Numbered, Fit, Right, sized-ok, length-range}
+use Rattle.cert.proofs.Distinct.{true≢false}
 use Rattle.cert.proofs.Rules.{In, Ok}
 use Rattle.cert.proofs.Serving.{Asked, serve-in}
 use Rattle.cert.proofs.Tables.{sized-nil, numbered-nil, sized-snoc, numbered-leaf, old-or-new, numbered-join}
@@ -25,15 +26,8 @@ use Rattle.totlog.proofs.Refusal.{and-true}
 
 -- ---- tests
 
-T-true : (b : Bool) → T b → b ≡ true
-T-true true t = refl
-T-true false t = absurd t
-
-true≢false : true ≡ false → ⊥
-true≢false e = let z : _≡_ {A = ℕ} 0 1 = cc in omega arith
-
 eqb-neq : (m n : ℕ) → notb (eqb m n) ≡ true → m ≢ n
-eqb-neq m n e p = true≢false (sym (T-true (eqb m n) (subst (λ (x : ℕ). T (eqb m x)) p (eqb-refl m))) ∙ not-true (eqb m n) e)
+eqb-neq m n e p = true≢false (sym (eq-eqb m n p) ∙ not-true (eqb m n) e)
 
 -- The first question is answered yes, and so are the others.
 pub yes-then : (n : ℕ) (b : Bool) (qs : List Question) → 0 < n → firstNo (ask n b ∷ qs) ≡ 0 → (b ≡ true) × (firstNo qs ≡ 0)
@@ -56,11 +50,6 @@ any-none f (a ∷ t) e (suc n) h = any-none f t (by (f a) refl) n (omega arith)
     by true p = absurd (true≢false (rw p at e))
 
 -- ---- sides
-
-pub length-range : (s n : ℕ) → length (range s n) ≡ n
-unfolding range
-length-range s zero = refl
-length-range s (suc n) = ap suc (length-range (suc s) n)
 
 plainOr-length : (f k : ℕ) (ls os : List ℕ) → length os ≡ limited k (length ls - f) → length (plainOr f k ls os) ≡ limited k (length ls - f)
 unfolding plainOr limited
@@ -124,7 +113,7 @@ sound-same h s u e f p = record {
 
 pub leaf-new : (t : List Node) (l : ℕ) → known t l ≡ false → (n : ℕ) → n < length t → at t n ≡ leaf l → ⊥
 unfolding known
-leaf-new t l e n h p = true≢false (sym (T-true (eqb l l) (eqb-refl l)) ∙ sym (ap (leafOf l) p) ∙ any-none (leafOf l) t e n h)
+leaf-new t l e n h p = true≢false (sym (eq-eqb l l refl) ∙ sym (ap (leafOf l) p) ∙ any-none (leafOf l) t e n h)
 
 low-literal : (l v : ℕ) → variable l < v → l < 2 * v
 unfolding variable

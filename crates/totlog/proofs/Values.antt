@@ -1,5 +1,5 @@
 -- The numbers of an accepted script's log fit in the groups of a number, so that the log reads back as its records.
-use mathlib.Core.Path.{_≡_, refl, sym, ap, subst}
+use mathlib.Core.Path.{refl, sym, subst}
 use mathlib.Core.Logic.{⊎-elim, dite}
 use mathlib.Core.List.{List, [], _∷_, _++_, map, flatMap, List·Memᴰ, List·Memᴰ·head, List·Memᴰ·tail, List·Memᴰ·not-nil, List·Memᴰ·cases-cons}
 use Prim.Native.Nat.{ℕ, zero, suc, _+_, _-_, _≤_, _<_, _^_}
@@ -13,6 +13,7 @@ use Rattle.pb.specs.Sum.{Term, _·_, neg, units}
 use Rattle.memo.proofs.Lists.{map-twice, flatMap-append}
 use Rattle.record.specs.Record.{Record, termNumbers, tokenNumbers, sum, derivation, clause, deletion, numbers, bytes}
 use Rattle.record.proofs.Decode.{Small}
+use Rattle.record.proofs.Sums.{terms-append}
 use Rattle.record.proofs.Tokens.{tokens-append}
 use Rattle.totdb.specs.Nodes.{Node, leaves, len, output, range, at, outputs}
 use Rattle.cert.specs.Definitions.{atLeastZero, realIf, realOnlyIf, realRecords, addSequence, total, Definition, nothing, axiom-of, stored, lacking, Key, ifPart, real, onlyIfPart, windowIf, windowOnlyIf, keyRecords, window-zero, window}
@@ -120,11 +121,6 @@ pub record LowNode (b : ℕ) (x : Node) : Type 0 where
   pub nots : AllBelow b (map neg (leaves x))
   pub outs : (i : ℕ) → 1 ≤ i → i ≤ len x → (output x i + 1 < b) × (neg (output x i) + 1 < b)
   pub short : len x + 200 < b
-
-terms-append : (ts us : List Term) → termNumbers (ts ++ us) ≡ termNumbers ts ++ termNumbers us
-unfolding termNumbers
-terms-append [] us = refl
-terms-append ((c · l) ∷ ts) us = ap {B = List ℕ} (λ (n : List ℕ). c ∷ l ∷ n) (terms-append ts us)
 
 units-below : (b : ℕ) (ls : List ℕ) → 1 < b → AllBelow b ls → AllBelow b (termNumbers (units ls))
 unfolding termNumbers units AllBelow
