@@ -146,7 +146,9 @@ defTokens at-step (stored k i) = step (at-step k i) ∷ []
 defTokens at-step lacking = []
 
 -- This definition, plus left, plus right, saturated.
+abbrev pub stepSequence : List Token → List Token → List Token → List Token
+stepSequence this left right = addSequence (addSequence this left) right ++ (saturate ∷ [])
+
 unfoldable pub clauseTokens : (Key → ℕ → ℕ) → Clause → List Token
 unfolding defTokens addSequence
-clauseTokens at-step c =
-    addSequence (addSequence (defTokens at-step (c .this)) (defTokens at-step (c .left))) (defTokens at-step (c .right)) ++ (saturate ∷ [])
+clauseTokens at-step c = stepSequence (defTokens at-step (c .this)) (defTokens at-step (c .left)) (defTokens at-step (c .right))

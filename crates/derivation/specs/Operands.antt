@@ -1,8 +1,9 @@
 -- What the code is handed for a clause's two records: the definitions that its step adds up, and the parts of the clause.
-use mathlib.Core.List.{List, [], _∷_, _++_}
+use mathlib.Core.List.{List, [], _∷_}
 use Prim.Native.Nat.{ℕ}
-use Rattle.pb.specs.Rules.{Token, step, literal, saturate}
+use Rattle.pb.specs.Rules.{Token, step, literal}
 use Rattle.cert.specs.Definitions.{Key, Definition, nothing, axiom-of, stored, lacking, addSequence}
+use Rattle.cert.specs.Requests.{stepSequence}
 use Rattle.derivation.specs.declared.Part.{Part}
 use Rattle.derivation.specs.declared.Part.the-variants.{Absent, Literal}
 use Rattle.derivation.specs.declared.SemDefinition.{SemDefinition}
@@ -20,10 +21,10 @@ tokens None = []
 tokens (Step n) = step n ∷ []
 tokens (Axiom l) = literal l ∷ []
 
--- This definition, plus left, plus right, saturated.
+-- The tokens of a clause's step.
 unfoldable pub stepTokens : SemDefinition → SemDefinition → SemDefinition → List Token
 unfolding tokens addSequence
-stepTokens this left right = addSequence (addSequence (tokens this) (tokens left)) (tokens right) ++ (saturate ∷ [])
+stepTokens this left right = stepSequence (tokens this) (tokens left) (tokens right)
 
 unfoldable pub part : Part → List ℕ
 part Absent = []
