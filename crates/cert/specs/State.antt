@@ -1,10 +1,10 @@
 -- The state of the player, and what a request does to it.
 use mathlib.Core.Logic.{dite}
-use mathlib.Core.List.{List, [], _∷_, _++_, map}
+use mathlib.Core.List.{List, [], _∷_, _++_, map, flatMap}
 use Prim.Native.Nat.{ℕ, zero, suc, _+_}
 use Rattle.memo.specs.Visit.{each, ask, batch}
 use Rattle.record.specs.Record.{Record, derivation, clause, steps}
-use Rattle.totdb.specs.Nodes.{Node}
+use Rattle.totdb.specs.Nodes.{Node, range}
 use Rattle.cert.specs.Definitions.{Direction, if, only-if, Key, real, window-zero, window, pulls, keyRecords}
 use Rattle.cert.specs.Equal.{request-dec, key-dec, keyRank}
 use Rattle.cert.specs.Requests.{Request, request, nodeOf, needs, Clause, clausesOf, looksOf, clauseTokens}
@@ -50,6 +50,11 @@ stepIn es (real n v) i = fromIn es (real n v) + i
 stepIn es (window-zero n f m) i = fromIn es (window-zero n f m) + i
 stepIn es (window n f m) zero = fromIn es (window-zero n f m)
 stepIn es (window n f m) (suc i) = fromIn es (window n f m) + i
+
+-- The steps of every stored definition, ascending.
+unfoldable pub storedSteps : List Node → List Stored → List ℕ
+unfolding keyRecords steps range flatMap
+storedSteps t es = flatMap (λ (e : Stored). range (e .from) (steps (keyRecords (λ k i. 0) t (e .key)))) es
 
 -- ---- the acts
 

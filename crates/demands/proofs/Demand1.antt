@@ -5,12 +5,12 @@ use Prim.Native.Nat.{ℕ, zero, suc, _≤_}
 use native.Mathlib.Omega.{arith}
 use Rattle.record.specs.Record.{Record, bytes, decodeLog}
 use Rattle.cert.specs.State.{State, start, Head}
-use Rattle.totlog.specs.Player.{Result, accepted, refused, play, Outcome, outcome, unrefused, plays, refusedAtHead, played}
-use Rattle.totlog.specs.Script.{Commands, script, readScript}
-use Rattle.totlog.specs.declared.Command.{Command}
-use Rattle.totlog.proofs.Numbers.{script-most, plays-most}
-use Rattle.totlog.proofs.Refusal.{outcome-number, outcome-place, plays-done, plays-ended, plays-accepted, plays-refused, padded, refusal}
-use Rattle.totlog.proofs.Scripts.{head-number, Way, too-long, no-head, bad-head, commands, way, accepted-reads, passes-is}
+use Rattle.player.specs.Player.{Result, accepted, refused, play, Outcome, outcome, unrefused, plays, refusedAtHead, played}
+use Rattle.player.specs.Script.{Commands, script, readScript}
+use Rattle.player.specs.declared.Command.{Command}
+use Rattle.player.proofs.Numbers.{script-most, plays-most}
+use Rattle.player.proofs.Refusal.{outcome-number, outcome-place, plays-done, plays-ended, plays-accepted, plays-refused, padded, refusal}
+use Rattle.player.proofs.Scripts.{head-number, Way, too-long, no-head, bad-head, commands, way, accepted-reads, passes-is}
 use Rattle.demands.specs.Demands.{Holds, Ends, finished, head-refused, command-refused, Demand1}
 use Rattle.demands.proofs.Holds.{outcome-holds, holds}
 

@@ -14,14 +14,14 @@ use Rattle.cert.specs.State.{Head, State, start, keys}
 use Rattle.cert.specs.Totalizer.{totalizer}
 use Rattle.cert.proofs.Apart.{Right}
 use Rattle.cert.proofs.Schema.{clauses-schema}
-use Rattle.totlog.specs.Called.{table}
-use Rattle.totlog.specs.Passes.{AllPassed}
-use Rattle.totlog.specs.declared.Command.{Command}
-use Rattle.totlog.proofs.ClauseSteps.{clause-steps}
-use Rattle.totlog.proofs.Defines.{defines-exactly}
-use Rattle.totlog.proofs.Matching.{held-from, held-has, held-once, held-right, held-clauses, keys-from, keys-has, keys-once, nodes-table, steps-count}
-use Rattle.totlog.proofs.Refusal.{outcome-number}
-use Rattle.totlog.proofs.Scripts.{passes-is}
+use Rattle.player.specs.Called.{table}
+use Rattle.player.specs.Passes.{AllPassed}
+use Rattle.player.specs.declared.Command.{Command}
+use Rattle.player.proofs.ClauseSteps.{clause-steps}
+use Rattle.player.proofs.Defines.{defines-exactly}
+use Rattle.player.proofs.Matching.{held-from, held-has, held-once, held-right, held-clauses, keys-from, keys-has, keys-once, nodes-table, steps-count}
+use Rattle.player.proofs.Refusal.{outcome-number}
+use Rattle.player.proofs.Scripts.{passes-is}
 use Rattle.demands.specs.Demands.{Proved, Demand2}
 use Rattle.demands.proofs.Holds.{holds}
 

@@ -7,11 +7,11 @@ use Rattle.memo.proofs.Lists.{length-perm}
 use Rattle.record.specs.Steps.{defined}
 use Rattle.cert.specs.Definitions.{definedBy}
 use Rattle.cert.specs.State.{State, start, keys, Head}
-use Rattle.totlog.specs.Called.{table}
-use Rattle.totlog.specs.Passes.{AllPassed}
-use Rattle.totlog.specs.declared.Command.{Command}
-use Rattle.totlog.proofs.Matching.{clauses-from, clauses-has, clauses-once, same-table, same-clauses, same-sums, same-steps}
-use Rattle.totlog.proofs.Scripts.{accepted-script}
+use Rattle.player.specs.Called.{table}
+use Rattle.player.specs.Passes.{AllPassed}
+use Rattle.player.specs.declared.Command.{Command}
+use Rattle.player.proofs.Matching.{clauses-from, clauses-has, clauses-once, same-table, same-clauses, same-sums, same-steps}
+use Rattle.player.proofs.Scripts.{accepted-script}
 use Rattle.demands.specs.Demands.{Listed, Demand3}
 use Rattle.demands.proofs.Demand2.{sums-are, proved}
 use Rattle.demands.proofs.Holds.{holds, nodes-are}

@@ -7,13 +7,13 @@ use lib.ListN.{length, replicate}
 use lib.Seq.{take-append-seam}
 use Rattle.record.specs.Record.{bytes, decodeLog}
 use Rattle.cert.specs.State.{Head, State}
-use Rattle.totlog.specs.Called.{table}
-use Rattle.totlog.specs.Passes.{Passes}
-use Rattle.totlog.specs.Player.{Outcome, outcome, played}
-use Rattle.totlog.specs.Script.{Commands}
-use Rattle.totlog.proofs.Decoded.{log-decodes}
-use Rattle.totlog.proofs.Matching.{nodes-table}
-use Rattle.totlog.proofs.Scripts.{passes-is}
+use Rattle.player.specs.Called.{table}
+use Rattle.player.specs.Passes.{Passes}
+use Rattle.player.specs.Player.{Outcome, outcome, played}
+use Rattle.player.specs.Script.{Commands}
+use Rattle.player.proofs.Decoded.{log-decodes}
+use Rattle.player.proofs.Matching.{nodes-table}
+use Rattle.player.proofs.Scripts.{passes-is}
 use Rattle.demands.specs.Demands.{Holds}
 
 pub outcome-holds : (capacity n p : ℕ) (s : State) → decodeLog (bytes (s .log)) ≡ some (s .log) → Holds (outcome capacity n p s) (s .log)

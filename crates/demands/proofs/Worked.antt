@@ -9,12 +9,12 @@ use Rattle.totdb.specs.declared.Side.{Side}
 use Rattle.cert.specs.Definitions.{if, only-if}
 use Rattle.cert.specs.Requests.{Request, request}
 use Rattle.cert.specs.State.{Head}
-use Rattle.totlog.specs.Called.{makes, asked}
-use Rattle.totlog.specs.Passes.{Passes}
-use Rattle.totlog.specs.Player.{played}
-use Rattle.totlog.specs.Script.{Commands, readScript}
-use Rattle.totlog.specs.declared.Command.{Command}
-use Rattle.totlog.proofs.Scripts.{accepted-script}
+use Rattle.player.specs.Called.{makes, asked}
+use Rattle.player.specs.Passes.{Passes}
+use Rattle.player.specs.Player.{played}
+use Rattle.player.specs.Script.{Commands, readScript}
+use Rattle.player.specs.declared.Command.{Command}
+use Rattle.player.proofs.Scripts.{accepted-script}
 use Rattle.demands.specs.Demands.{Ends, Holds, Proved, Alike, Matching, Demand1, Demand2, Demand3}
 use Rattle.demands.proofs.Demand1.{demand-1}
 use Rattle.demands.proofs.Demand2.{demand-2}

@@ -10,9 +10,9 @@ use Rattle.record.specs.Steps.{stepOf, defined}
 use Rattle.totdb.specs.Nodes.{Node}
 use Rattle.cert.specs.Definitions.{if}
 use Rattle.cert.specs.Requests.{Request, request, needs, literalsOf}
-use Rattle.totlog.specs.Called.{table}
-use Rattle.totlog.specs.Player.{played}
-use Rattle.totlog.specs.Script.{script, headless, readScript}
+use Rattle.player.specs.Called.{table}
+use Rattle.player.specs.Player.{played}
+use Rattle.player.specs.Script.{script, headless, readScript}
 
 -- What is worked out: an outcome (its six numbers and the log), a number read, what a step of a log comes to, how many sums a log defines, or what a
 -- request needs below and its clauses.

@@ -12,11 +12,11 @@ use Rattle.cert.specs.Definitions.{Key, definedBy}
 use Rattle.cert.specs.Requests.{Request}
 use Rattle.cert.specs.State.{Head}
 use Rattle.cert.specs.Totalizer.{totalizer}
-use Rattle.totlog.specs.Called.{makes, asked, table, Closure, Called, KeyCalled}
-use Rattle.totlog.specs.Passes.{Passes}
-use Rattle.totlog.specs.Player.{Outcome, Padded, unrefused, played}
-use Rattle.totlog.specs.Script.{Commands, script, readScript}
-use Rattle.totlog.specs.declared.Command.{Command}
+use Rattle.player.specs.Called.{makes, asked, table, Closure, Called, KeyCalled}
+use Rattle.player.specs.Passes.{Passes}
+use Rattle.player.specs.Player.{Outcome, Padded, unrefused, played}
+use Rattle.player.specs.Script.{Commands, script, readScript}
+use Rattle.player.specs.declared.Command.{Command}
 
 -- ---- an outcome and its records
 

@@ -5,3 +5,4 @@ pub mod Serve
 pub mod Machine
 pub mod Memo
 pub mod Grow
+pub mod Unrolled

@@ -3,8 +3,8 @@ use mathlib.Core.Path.{_≡_, refl, sym, _∙_, ap}
 use mathlib.Core.List.{List, [], _∷_, _++_, map}
 use Prim.Native.Nat.{ℕ, zero, suc, _-_, _/_, _%_}
 use lib.ListN.{take, replicate, take-append-drop}
-use Rattle.totlog.specs.Player.{Outcome, played}
-use Rattle.totlog.proofs.Refusal.{padded}
+use Rattle.player.specs.Player.{Outcome, played}
+use Rattle.player.proofs.Refusal.{padded}
 
 -- An outcome with another log.
 unfoldable pub withLog : List ℕ → Outcome → Outcome

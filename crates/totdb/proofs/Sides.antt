@@ -2,11 +2,11 @@
 use mathlib.Core.Path.{_≡_, refl}
 use mathlib.Core.Bool.{true, false}
 use mathlib.Core.List.{List}
-use Prim.Native.Nat.{ℕ, zero, suc, _-_, _*_, _≤_, _<_}
+use Prim.Native.Nat.{ℕ, zero, suc, _+_, _-_, _*_, _≤_, _<_}
 use native.Mathlib.Omega.{arith}
 use borrow.Author.Tests.{ne-eqb}
 use lib.Dec.{eqb}
-use Rattle.totdb.specs.Nodes.{leaf, join, output, fromFirst, limited, lengthOver, plainOr}
+use Rattle.totdb.specs.Nodes.{leaf, join, output, fromFirst, limited, lengthOver, plainOr, keyed}
 use Rattle.totdb.specs.declared.Side.{Side}
 
 limited-set : (k n : ℕ) → 0 < k → limited k n ≡ k
@@ -25,6 +25,16 @@ module _ (s : Side) (n : ℕ) where
 
   pub length-rest : s .limit ≡ 0 → lengthOver s n ≡ n - s .offset
   length-rest h = limited-none (s .limit) (n - s .offset) h
+
+pub keyed-zero : (s : Side) (a : ℕ) → a ≡ 0 → keyed s a ≡ 0
+unfolding keyed
+keyed-zero s zero h = refl
+keyed-zero s (suc a) h = absurd (omega arith)
+
+pub keyed-above : (s : Side) (a : ℕ) → 0 < a → keyed s a ≡ s .offset + a
+unfolding keyed
+keyed-above s zero h = absurd (omega arith)
+keyed-above s (suc a) h = refl
 
 -- By the limit where the offset is 0; by the offset where it is not.
 module _ (f k : ℕ) where

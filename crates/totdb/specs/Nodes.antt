@@ -63,6 +63,11 @@ unfoldable pub sideLit : List Node → Side → ℕ → ℕ
 unfolding at output
 sideLit t s a = output (at t (s .node)) (s .offset + a)
 
+-- The value by which the definition of its a-th value is looked up: a value at or below the offset is keyed 0.
+unfoldable pub keyed : Side → ℕ → ℕ
+keyed s zero = 0
+keyed s (suc a) = s .offset + suc a
+
 unfoldable pub sideOutputs : List Node → Side → List ℕ
 unfolding at outputs sideLen
 sideOutputs t s = outputs (at t (s .node)) (s .offset) (sideLen t s)

@@ -1,0 +1,329 @@
+-- The log is as long as the capacity and has zeros from its length on. Where a command is refused, the log and the last four numbers
+-- are those of the script cut before that command.
+use mathlib.Core.Path.{_≡_, refl, sym, _∙_, ap, subst}
+use mathlib.Core.Bool.{Bool, true, false, _&&_, not as notb}
+use mathlib.Core.List.{List, [], _∷_, _++_, append-assoc}
+use Prim.Native.Nat.{ℕ, zero, suc, _+_, _-_, _≤_, _<_}
+use native.Mathlib.Omega.{arith}
+use borrow.Author.Tests.{not-true, le-leb, lt-leb, leb-true}
+use lib.Dec.{leb}
+use lib.ListN.{length, take, drop, replicate, length-append, length-replicate}
+use lib.Seq.{drop-append-seam}
+use Rattle.number.specs.Number.{number, read, Front, bad}
+use Rattle.record.specs.Record.{bytes}
+use Rattle.cert.specs.State.{State, start, Head}
+use Rattle.player.specs.Passes.{Passed}
+use Rattle.player.specs.Player.{verdict, accepted, refused, firstNo, ask, questions, act, anyLacks, lastQuestions, play, Result, plays, outcome, ended, Outcome, refusedAtHead, headFits, playScript, mostBytes, played, Padded, unrefused}
+use Rattle.player.specs.Script.{Commands, script, headless, readScript, Script, readCommands}
+use Rattle.player.specs.declared.Command.{Command}
+use Rattle.player.proofs.Reading.{read-front, commands-cut}
+
+-- ---- an accepted command
+
+verdict-accepted : (n : ℕ) (s u : State) → verdict n s ≡ accepted u → (n ≡ 0) × (s ≡ u)
+unfolding verdict
+verdict-accepted zero s u e = (refl, cc)
+verdict-accepted (suc n) s u e = absurd (let z : _≡_ {A = ℕ} 0 1 = cc in omega arith)
+
+verdict-refused : (n : ℕ) (s : State) (m : ℕ) → verdict n s ≡ refused m → 0 < m
+unfolding verdict
+verdict-refused zero s m e = absurd (let z : _≡_ {A = ℕ} 0 1 = cc in omega arith)
+verdict-refused (suc n) s m e = let z : suc n ≡ m = cc in omega arith
+
+two-yes : (n m : ℕ) (a b : Bool) → 0 < n → 0 < m → firstNo (ask n a ∷ ask m b ∷ []) ≡ 0 → (a ≡ true) × (b ≡ true)
+unfolding firstNo
+two-yes n m true true p q e = (refl, refl)
+two-yes n m true false p q e = absurd (omega arith)
+two-yes n m false b p q e = absurd (omega arith)
+
+last-passed : (capacity : ℕ) (s u : State) → firstNo (lastQuestions capacity s u) ≡ 0
+    → (anyLacks (u .nodes) (drop (length (s .held)) (u .held)) ≡ false) × (length (bytes (u .log)) ≤ capacity)
+unfolding lastQuestions
+last-passed capacity s u q = let p =
+    two-yes 13 14 (notb (anyLacks (u .nodes) (drop (length (s .held)) (u .held)))) (leb (length (bytes (u .log))) capacity) (omega arith)
+    (omega arith) q in (
+      not-true (anyLacks (u .nodes) (drop (length (s .held)) (u .held))) (p .0),
+      leb-true (length (bytes (u .log))) capacity (p .1),
+    )
+
+pub play-passed : (h : Head) (capacity : ℕ) (c : Command) (s u : State) → play h capacity c s ≡ accepted u → Passed h capacity c s u
+play-passed h capacity c s u e = by (firstNo (questions h (s .nodes) c)) refl (unfold play in e)
+  where
+    by : (n : ℕ) → firstNo (questions h (s .nodes) c) ≡ n
+        → elim n as (λ _. Result) [
+          | zero ↦ let u = act c s in
+              verdict (firstNo (lastQuestions capacity s u)) u
+          | suc n ↦ refused (suc n)
+        ] ≡ accepted u → Passed h capacity c s u
+    by (suc n) q k = absurd (let z : _≡_ {A = ℕ} 0 1 = cc in omega arith)
+    by zero q k =
+        let p = verdict-accepted (firstNo (lastQuestions capacity s (act c s))) (act c s) u k in
+        let l = last-passed capacity s (act c s) (p .0) in
+        record { asked = q; after = p .1; offered = rw (p .1) at (l .0); fits = rw (p .1) at (l .1) }
+
+-- A command that passes, with the same or another capacity.
+module _ (h : Head) (capacity other : ℕ) (c : Command) (s u : State) (p : Passed h capacity c s u) where
+  play-last : play h other c s ≡ verdict (firstNo (lastQuestions other s u)) u
+  unfolding play
+  play-last = rw (p .asked, play) (rw (p .after))
+
+  pub play-fits : length (bytes (u .log)) ≤ other → play h other c s ≡ accepted u
+  unfolding lastQuestions firstNo verdict
+  play-fits l = play-last ∙ rw (p .offered, le-leb (length (bytes (u .log))) other l)
+
+  pub play-full : other < length (bytes (u .log)) → play h other c s ≡ refused 14
+  unfolding lastQuestions firstNo verdict
+  play-full l = play-last ∙ rw (p .offered, lt-leb (length (bytes (u .log))) other l)
+
+pub play-refused : (h : Head) (capacity : ℕ) (c : Command) (s : State) (m : ℕ) → play h capacity c s ≡ refused m → 0 < m
+play-refused h capacity c s m e = by (firstNo (questions h (s .nodes) c)) (unfold play in e)
+  where
+    by : (n : ℕ) → elim n as
+        (λ _. Result) [ zero ↦ let u = act c s in verdict (firstNo (lastQuestions capacity s u)) u | suc n ↦ refused (suc n) ] ≡ refused m → 0 < m
+    by (suc n) k = let z : suc n ≡ m = cc in omega arith
+    by zero k = verdict-refused (firstNo (lastQuestions capacity s (act c s))) (act c s) m k
+
+-- ---- the law for a list of commands
+
+module _ (h : Head) (capacity ending : ℕ) where
+  pub plays-done : (p : ℕ) (s : State) → plays h capacity 0 [] p s ≡ outcome capacity 0 p s
+  unfolding plays ended
+  plays-done p s = refl
+
+  pub plays-ended : (n p : ℕ) (s : State) → plays h capacity (suc n) [] p s ≡ outcome capacity (suc n) (suc p) s
+  unfolding plays ended
+  plays-ended n p s = refl
+
+  pub plays-accepted : (c : Command) (cs : List Command) (p : ℕ) (s u : State) → play h capacity c s ≡ accepted u
+      → plays h capacity ending (c ∷ cs) p s ≡ plays h capacity ending cs (suc p) u
+  unfolding plays
+  plays-accepted c cs p s u e = rw (e, plays)
+
+  pub plays-refused : (c : Command) (cs : List Command) (p : ℕ) (s : State) (n : ℕ) → play h capacity c s ≡ refused n
+      → plays h capacity ending (c ∷ cs) p s ≡ outcome capacity n (suc p) s
+  unfolding plays
+  plays-refused c cs p s n e = rw (e, plays)
+
+pub outcome-number : (capacity n p : ℕ) (s : State) → outcome capacity n p s .number ≡ n
+unfolding outcome
+outcome-number capacity n p s = refl
+
+pub outcome-place : (capacity n p : ℕ) (s : State) → outcome capacity n p s .place ≡ p
+unfolding outcome
+outcome-place capacity n p s = refl
+
+outcome-unrefused : (capacity n p q : ℕ) (s : State) → unrefused q (outcome capacity n p s) ≡ outcome capacity 0 q s
+unfolding outcome unrefused
+outcome-unrefused capacity n p q s = refl
+
+abbrev Cut : (h : Head) (capacity : ℕ) (cs : List Command) (p : ℕ) (s : State) (q : ℕ) → Outcome → Type 0
+Cut h capacity cs p s q o = (p ≤ q) × (q ≤ p + length cs) × (plays h capacity 0 (take (q - p) cs) p s ≡ unrefused q o)
+
+cut-here : (h : Head) (capacity n : ℕ) (cs : List Command) (p : ℕ) (s : State) (q : ℕ) (o : Outcome) → o ≡ outcome capacity n (suc p) s
+    → o .place ≡ suc q → Cut h capacity cs p s q o
+cut-here h capacity n cs p s q o k f =
+    let e : q ≡ p = omega (arith, outcome-place capacity n (suc p) s, ap (λ (x : Outcome). x .place) k) in
+    let z : q - p ≡ 0 = omega arith in
+    (omega arith, omega arith, rw (k, z) (plays-done h capacity 0 p s ∙ rw e (sym (outcome-unrefused capacity n (suc p) p s))))
+
+cut-later : (h : Head) (capacity : ℕ) (c : Command) (cs : List Command) (p : ℕ) (s u : State) (q : ℕ) (o : Outcome) → play h capacity c s ≡ accepted u
+    → Cut h capacity cs (suc p) u q o → Cut h capacity (c ∷ cs) p s q o
+cut-later h capacity c cs p s u q o k r =
+    let z : q - p ≡ suc (q - suc p) = omega (arith, r .0) in
+    (omega (arith, r .0), omega (arith, r .1), rw z (plays-accepted h capacity 0 c (take (q - suc p) cs) p s u k ∙ r .2))
+
+plays-cut : (h : Head) (capacity ending : ℕ) (cs : List Command) (p : ℕ) (s : State) (n q : ℕ) → plays h capacity ending cs p s .number ≡ suc n
+    → plays h capacity ending cs p s .place ≡ suc q
+    → Cut h capacity cs p s q (plays h capacity ending cs p s)
+plays-cut h capacity zero [] p s n q e f = absurd (omega (arith, outcome-number capacity 0 p s, rw plays-done at e))
+plays-cut h capacity (suc m) [] p s n q e f = cut-here h capacity (suc m) [] p s q _ (plays-ended h capacity 0 m p s) f
+plays-cut h capacity ending (c ∷ cs) p s n q e f = by (play h capacity c s) refl (λ u. plays-cut h capacity ending cs (suc p) u n q)
+  where
+    by : (r : Result) → play h capacity c s ≡ r
+        → ((u : State) → plays h capacity ending cs (suc p) u .number ≡ suc n → plays h capacity ending cs (suc p) u .place ≡ suc q
+        → Cut h capacity cs (suc p) u q (plays h capacity ending cs (suc p) u))
+        → Cut h capacity (c ∷ cs) p s q (plays h capacity ending (c ∷ cs) p s)
+    by (refused m) k ih = cut-here h capacity m (c ∷ cs) p s q _ (plays-refused h capacity ending c cs p s m k) f
+    by (accepted u) k ih =
+        let z = plays-accepted h capacity ending c cs p s u k in
+        rw z (cut-later h capacity c cs p s u q (plays h capacity ending cs (suc p) u) k (ih u (rw z at e) (rw z at f)))
+
+-- ---- the log: as long as the capacity, zeros from the length on
+
+outcome-padded : (capacity n p : ℕ) (s : State) → length (bytes (s .log)) ≤ capacity → Padded capacity (outcome capacity n p s)
+unfolding outcome
+outcome-padded capacity n p s l = record {
+  within = l;
+  whole = length-append (bytes (s .log)) (replicate (capacity - length (bytes (s .log))) 0) ∙ rw length-replicate (omega arith);
+  zeros = drop-append-seam (bytes (s .log)) (replicate (capacity - length (bytes (s .log))) 0);
+}
+
+plays-padded : (h : Head) (capacity ending : ℕ) (cs : List Command) (p : ℕ) (s : State) → length (bytes (s .log)) ≤ capacity
+    → Padded capacity (plays h capacity ending cs p s)
+plays-padded h capacity zero [] p s l = rw plays-done (outcome-padded capacity 0 p s l)
+plays-padded h capacity (suc n) [] p s l = rw plays-ended (outcome-padded capacity (suc n) (suc p) s l)
+plays-padded h capacity ending (c ∷ cs) p s l = by (play h capacity c s) refl (λ u. plays-padded h capacity ending cs (suc p) u)
+  where
+    by : (r : Result) → play h capacity c s ≡ r
+        → ((u : State) → length (bytes (u .log)) ≤ capacity → Padded capacity (plays h capacity ending cs (suc p) u))
+        → Padded capacity (plays h capacity ending (c ∷ cs) p s)
+    by (refused m) k ih = rw (plays-refused h capacity ending c cs p s m k) (outcome-padded capacity m (suc p) s l)
+    by (accepted u) k ih = rw (plays-accepted h capacity ending c cs p s u k) (ih u (play-passed h capacity c s u k .fits))
+
+pub start-empty : (h : Head) (capacity : ℕ) → length (bytes (start h .log)) ≤ capacity
+unfolding start bytes
+start-empty h capacity = omega arith
+
+head-padded : (capacity n : ℕ) → Padded capacity (refusedAtHead capacity n)
+unfolding refusedAtHead
+head-padded capacity n =
+    outcome-padded capacity n 0 (start (record { variable = 0; step = 0 })) (start-empty (record { variable = 0; step = 0 }) capacity)
+
+-- ---- the whole script
+
+module _ (capacity : ℕ) where
+  pub script-true : (h : Head) (cs : Commands) → headFits h ≡ true
+      → playScript capacity (script h cs) ≡ plays h capacity (cs .ending) (cs .list) 0 (start h)
+  unfolding playScript
+  script-true h cs e = rw (e, playScript)
+
+  pub script-false : (h : Head) (cs : Commands) → headFits h ≡ false → playScript capacity (script h cs) ≡ refusedAtHead capacity 3
+  unfolding playScript
+  script-false h cs e = rw (e, playScript)
+
+  pub script-headless : playScript capacity headless ≡ refusedAtHead capacity 2
+  unfolding playScript
+  script-headless = refl
+
+  pub played-true : (bs : List ℕ) → (leb (length bs) mostBytes && leb capacity mostBytes) ≡ true
+      → played bs capacity ≡ playScript capacity (readScript bs)
+  unfolding played
+  played-true bs e = rw (e, played)
+
+  pub played-false : (bs : List ℕ) → (leb (length bs) mostBytes && leb capacity mostBytes) ≡ false → played bs capacity ≡ refusedAtHead capacity 1
+  unfolding played
+  played-false bs e = rw (e, played)
+
+  script-padded : (r : Script) → Padded capacity (playScript capacity r)
+  script-padded headless = rw script-headless (head-padded capacity 2)
+  script-padded (script h cs) = by (headFits h) refl
+    where
+      by : (b : Bool) → headFits h ≡ b → Padded capacity (playScript capacity (script h cs))
+      by true e = rw (script-true h cs e) (plays-padded h capacity (cs .ending) (cs .list) 0 (start h) (start-empty h capacity))
+      by false e = rw (script-false h cs e) (head-padded capacity 3)
+
+  -- Demand 1, the log: for every script and every capacity.
+  pub padded : (bs : List ℕ) → Padded capacity (played bs capacity)
+  padded bs = by (leb (length bs) mostBytes && leb capacity mostBytes) refl
+    where
+      by : (b : Bool) → (leb (length bs) mostBytes && leb capacity mostBytes) ≡ b → Padded capacity (played bs capacity)
+      by true e = rw (played-true bs e) (script-padded (readScript bs))
+      by false e = rw (played-false bs e) (head-padded capacity 1)
+
+-- ---- the law for bytes
+
+pub and-true : (a b : Bool) → (a && b) ≡ true → (a ≡ true) × (b ≡ true)
+and-true true true e = (refl, refl)
+and-true true false e = absurd (let z : _≡_ {A = ℕ} 0 1 = cc in omega arith)
+and-true false b e = absurd (let z : _≡_ {A = ℕ} 0 1 = cc in omega arith)
+
+leb-less : (m n k : ℕ) → n ≤ m → leb m k ≡ true → leb n k ≡ true
+leb-less m n k h e = le-leb n k (omega (arith, leb-true m k e))
+
+pub script-is : (bs : List ℕ) (v : ℕ) (r : List ℕ) (s : ℕ) (t : List ℕ) → read bs ≡ number v r → read r ≡ number s t
+    → readScript bs ≡ script (record { variable = v; step = s }) (readCommands (length t) false t)
+unfolding readScript
+script-is bs v r s t e f = rw (e, readScript) (rw f)
+
+three-fronts : (x a b c d r q : List ℕ) → x ≡ a ++ r → r ≡ b ++ q → q ≡ c ++ d → x ≡ (a ++ (b ++ c)) ++ d
+three-fronts x a b c d r q e f g = rw (e, f, g) (simp append-assoc)
+
+-- The two numbers of a head that reads.
+pub record HeadRead (bs : List ℕ) (h : Head) (cs : Commands) : Type 0 where
+  pub after-one : List ℕ
+  pub after-two : List ℕ
+  pub one : read bs ≡ number (h .variable) after-one
+  pub two : read after-one ≡ number (h .step) after-two
+  pub rest : readCommands (length after-two) false after-two ≡ cs
+
+script-head : (h k : Head) (cs ds : Commands) → script h cs ≡ script k ds → (h ≡ k) × (cs ≡ ds)
+script-head h k cs ds e = (cc, cc)
+
+pub head-read : (bs : List ℕ) (h : Head) (cs : Commands) → readScript bs ≡ script h cs → HeadRead bs h cs
+head-read bs h cs e = by (read bs) refl
+  where
+    by : (x : Front) → read bs ≡ x → HeadRead bs h cs
+    by bad p = absurd (let k : headless ≡ script h cs = unfold readScript in rw (p, readScript) at e in let z : _≡_ {A = ℕ} 0 1 = cc in omega arith)
+    by (number v r) p = go (read r) refl
+      where
+        go : (y : Front) → read r ≡ y → HeadRead bs h cs
+        go bad q = absurd (let k : headless ≡ script h cs = unfold readScript in rw (p, q, readScript) at e in let z : _≡_ {A = ℕ} 0 1 = cc in
+            omega arith)
+        go (number s t) q =
+            let k = script-head _ h _ cs (sym (script-is bs v r s t p q) ∙ e) in
+            record {
+              after-one = r;
+              after-two = t;
+              one = rw (← k .0) p;
+              two = rw (← k .0) q;
+              rest = k .1;
+            }
+
+head-place : (capacity n : ℕ) → refusedAtHead capacity n .place ≡ 0
+unfolding refusedAtHead outcome
+head-place capacity n = refl
+
+-- Demand 1, the records: those of the commands before the refused one.
+module _ (capacity : ℕ) (bs : List ℕ) (n q : ℕ) where
+  abbrev pub CutBefore : Type 0
+  CutBefore = (pre : List ℕ) × (suf : List ℕ) × (bs ≡ pre ++ suf) × (played pre capacity ≡ unrefused q (played bs capacity))
+
+  cut-read : (h : Head) (cs : Commands) → (leb (length bs) mostBytes && leb capacity mostBytes) ≡ true → headFits h ≡ true → HeadRead bs h cs
+      → played bs capacity ≡ plays h capacity (cs .ending) (cs .list) 0 (start h)
+      → played bs capacity .number ≡ suc n → played bs capacity .place ≡ suc q → CutBefore
+  cut-read h cs small fits r whole e f =
+      let c = plays-cut h capacity (cs .ending) (cs .list) 0 (start h) n q (rw whole at e) (rw whole at f) in
+      let p = read-front bs (h .variable) (r .after-one) (r .one) in
+      let s = read-front (r .after-one) (h .step) (r .after-two) (r .two) in
+      let t = commands-cut (length (r .after-two)) false (r .after-two) q (rw (r .rest) (omega (arith, c .1))) in
+      let pre : List ℕ = p .0 ++ (s .0 ++ t .0) in
+      let join : bs ≡ pre ++ t .1 = three-fronts bs (p .0) (s .0) (t .0) (t .1) (r .after-one) (r .after-two) (p .1) (s .1) (t .2) in
+      let shorter : length pre ≤ length bs = omega (arith, length-append pre (t .1), ap length join) in
+      let b = and-true (leb (length bs) mostBytes) (leb capacity mostBytes) small in
+      let still : (leb (length pre) mostBytes && leb capacity mostBytes) ≡ true =
+      rw (leb-less (length bs) (length pre) mostBytes shorter (b .0), b .1) in
+      let reads : readScript pre ≡ script h (record { list = take q (cs .list); ending = 0 }) =
+      script-is pre (h .variable) (s .0 ++ t .0) (h .step) (t .0) (p .2 (s .0 ++ t .0)) (s .2 (t .0))
+      ∙ ap (script h) (t .3 (length (t .0)) (omega arith) ∙ rw (r .rest)) in
+      let same : q - 0 ≡ q = omega arith in
+      let last : plays h capacity 0 (take q (cs .list)) 0 (start h) ≡ unrefused q (plays h capacity (cs .ending) (cs .list) 0 (start h)) =
+      subst (λ (i : ℕ). plays h capacity 0 (take i (cs .list)) 0 (start h) ≡ unrefused q
+      (plays h capacity (cs .ending) (cs .list) 0 (start h))) same (c .2) in (
+        pre,
+        t .1,
+        join,
+        played-true capacity pre still ∙ ap (playScript capacity) reads
+            ∙ script-true capacity h (record { list = take q (cs .list); ending = 0 }) fits ∙ last ∙ ap (unrefused q) (sym whole),
+      )
+
+  pub refusal : played bs capacity .number ≡ suc n → played bs capacity .place ≡ suc q → CutBefore
+  refusal e f = by (leb (length bs) mostBytes && leb capacity mostBytes) refl
+    where
+      by : (b : Bool) → (leb (length bs) mostBytes && leb capacity mostBytes) ≡ b → CutBefore
+      by false small = absurd (omega (arith, rw (played-false capacity bs small) at f, head-place capacity 1))
+      by true small = go (readScript bs) refl
+        where
+          go : (r : Script) → readScript bs ≡ r → CutBefore
+          go headless k =
+              let z : played bs capacity ≡ refusedAtHead capacity 2 = played-true capacity bs small ∙ ap (playScript capacity) k
+              ∙ script-headless capacity in
+              absurd (omega (arith, rw z at f, head-place capacity 2))
+          go (script h cs) k = at-head (headFits h) refl
+            where
+              at-head : (b : Bool) → headFits h ≡ b → CutBefore
+              at-head false fits =
+                  let z : played bs capacity ≡ refusedAtHead capacity 3 = played-true capacity bs small ∙ ap (playScript capacity) k
+                  ∙ script-false capacity h cs fits in
+                  absurd (omega (arith, rw z at f, head-place capacity 3))
+              at-head true fits = cut-read h cs small fits (head-read bs h cs k)
+                  (played-true capacity bs small ∙ ap (playScript capacity) k ∙ script-true capacity h cs fits) e f
