@@ -1,6 +1,8 @@
 -- What the code is handed for a clause's two records: the definitions that its step adds up, and the parts of the clause.
+use mathlib.Core.Bool.{cond}
 use mathlib.Core.List.{List, [], _∷_}
-use Prim.Native.Nat.{ℕ}
+use Prim.Native.Nat.{ℕ, _+_}
+use lib.Dec.{ltb}
 use Rattle.pb.specs.Rules.{Token, step, literal}
 use Rattle.cert.specs.Definitions.{Key, Definition, nothing, axiom-of, stored, lacking, addSequence}
 use Rattle.cert.specs.Requests.{stepSequence}
@@ -29,3 +31,7 @@ stepTokens this left right = stepSequence (tokens this) (tokens left) (tokens ri
 unfoldable pub part : Part → List ℕ
 part Absent = []
 part (Literal l) = l ∷ []
+
+-- The step after n. It stops at a number that no log of 65,536 bytes reaches.
+unfoldable pub nextStep : ℕ → ℕ
+nextStep n = cond (ltb n 2000000) (n + 1) n

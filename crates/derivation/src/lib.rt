@@ -9,7 +9,7 @@ ghost use Rattle.record.specs.Record.{clause, derivation, numbers, tokenNumbers
 ghost use Rattle.record.specs.Writing.{buffer, Puts};
 ghost use Rattle.totdb.specs.Nodes.{Node, output};
 ghost use Rattle.cert.specs.Definitions.{Key, addSequence, ifPart, onlyIfPart, real};
-ghost use Rattle.derivation.specs.Operands.{part, stepTokens, tokens};
+ghost use Rattle.derivation.specs.Operands.{nextStep, part, stepTokens, tokens};
 
 // A definition as a derivation adds it: nothing, the step that defines it, or a literal axiom.
 pub enum SemDefinition {
@@ -185,4 +185,11 @@ pub fn put_only_if_part(
         return put_definition(log, c, SemDefinition::Axiom(literal));
     }
     c
+}
+
+// The step after n. It stops at a number that no log of 65,536 bytes reaches.
+pub fn next_step(n: u32) -> u32
+    ensures { λ r. ⌜ r ≡ nextStep n ⌝ }
+{
+    if n < 2000000 { n + 1 } else { n }
 }
