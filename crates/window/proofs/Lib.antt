@@ -1,0 +1,3 @@
+-- The records of a window, as the code writes them.
+pub mod Totals
+pub mod Windows

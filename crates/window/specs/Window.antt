@@ -1,0 +1,64 @@
+-- What the code is handed for a window, and the two derivations of a value as one definition.
+use mathlib.Core.Path.{_≡_}
+use mathlib.Core.Bool.{Bool, true, false, cond}
+use mathlib.Core.List.{List, [], _∷_, map}
+use Prim.Native.Nat.{ℕ, _+_, _-_, _*_, _≤_, _<_}
+use lib.Dec.{eqb}
+use lib.ListN.{length, getD}
+use Rattle.pb.specs.Rules.{Token}
+use Rattle.record.specs.Record.{Record}
+use Rattle.totdb.specs.Nodes.{Node, output, range}
+use Rattle.cert.specs.Definitions.{Key, addSequence, real, ifPart, onlyIfPart, total, windowIf, windowOnlyIf}
+use Rattle.derivation.specs.Operands.{nextStep}
+
+-- For a window of node x of number n, offset f, m outputs: `firsts` has the first step of the real definition of value s at 68 * n + s,
+-- `outputs` the output of value s at s - 1.
+pub record Handed (firsts outputs : List ℕ) (step-at : Key → ℕ → ℕ) (n : ℕ) (x : Node) (f m : ℕ) : Type 0 where
+  pub if-step : (s : ℕ) → f < s → s ≤ f + m → step-at (real n s) 0 ≡ getD firsts (68 * n + s) 0
+  pub only-if-step : (s : ℕ) → f < s → s ≤ f + m → step-at (real n s) 1 ≡ nextStep (getD firsts (68 * n + s) 0)
+  pub literal : (s : ℕ) → f < s → s ≤ f + m → output x s ≡ getD outputs (s - 1) 0
+
+-- A window inside the tables: 319 nodes, 68 values to a node, the outputs of its node. It has two outputs or more.
+pub record Bounds (firsts outputs : List ℕ) (node offset len : ℕ) : Type 0 where
+  pub nodes : node < 319
+  pub size : length firsts ≡ 21692
+  pub values : offset + len ≤ 64
+  pub several : 1 < len
+  pub inside : offset + len ≤ length outputs
+
+-- A value of a window.
+pub record Within (offset len value : ℕ) : Type 0 where
+  pub above : offset < value
+  pub below : value ≤ offset + len
+
+-- What a summand reads: the steps of the values v and s of a node, and the output of s.
+pub record Reads (firsts outputs : List ℕ) (node v s : ℕ) : Type 0 where
+  pub nodes : node < 319
+  pub size : length firsts ≡ 21692
+  pub value : v ≤ 64
+  pub low : 0 < s
+  pub high : s ≤ 64
+  pub inside : s ≤ length outputs
+
+-- The summand at s of the only-if of v, or of its if.
+unfoldable pub summand : Bool → (Key → ℕ → ℕ) → ℕ → Node → ℕ → ℕ → List Token
+unfolding ifPart onlyIfPart
+summand true step-at n x v s = onlyIfPart step-at n x v s
+summand false step-at n x v s = ifPart step-at n x v s
+
+-- The tokens of the only-if of v in a window, or of its if.
+unfoldable pub tokensOf : Bool → (Key → ℕ → ℕ) → ℕ → Node → ℕ → ℕ → ℕ → List Token
+unfolding summand total range
+tokensOf only-if step-at n x f m v = total [] (map (summand only-if step-at n x v) (range (f + 1) m))
+
+-- A sequence with its addition to what stands before.
+abbrev pub added : {A : Type 0} → (A → List Token) → A → List Token
+added p a = addSequence [] (p a)
+
+-- The first value of a window at offset f that is not v.
+unfoldable pub firstOther : ℕ → ℕ → ℕ
+firstOther f v = cond (eqb v (f + 1)) (f + 2) (f + 1)
+
+-- The if and the only-if of v in a window.
+abbrev pub windowPair : (Key → ℕ → ℕ) → ℕ → Node → ℕ → ℕ → ℕ → List Record
+windowPair step-at n x f m v = windowIf step-at n x f m v ∷ windowOnlyIf step-at n x f m v ∷ []
