@@ -29,7 +29,7 @@ module _ {A : Type 0} (p : A → List Token) where
       ∙ total-started k (ks ++ added p a) l
       ∙ append-assoc (k ∷ ks) (added p a) (flatMap (added p) l)
 
-  pub total-first : (a : A) (l : List A) → 0 < length (p a) → total [] (map p (a ∷ l)) ≡ p a ++ flatMap (added p) l
+  total-first : (a : A) (l : List A) → 0 < length (p a) → total [] (map p (a ∷ l)) ≡ p a ++ flatMap (added p) l
   unfolding total
   total-first a l h = go (p a) h
     where
@@ -37,7 +37,7 @@ module _ {A : Type 0} (p : A → List Token) where
       go [] h = absurd (omega arith)
       go (j ∷ js) h = total-started j js l
 
-  pub total-skip : (a : A) (l : List A) → p a ≡ [] → total [] (map p (a ∷ l)) ≡ total [] (map p l)
+  total-skip : (a : A) (l : List A) → p a ≡ [] → total [] (map p (a ∷ l)) ≡ total [] (map p l)
   unfolding total
   total-skip a l e = rw e
 
@@ -86,7 +86,7 @@ module _ (p : ℕ → List Token) (a : ℕ) where
       let e : suc i - 1 ≡ i = omega arith in
       rw (add-one, e) (total-skip p a (range (suc a) i) k)
 
--- A loop: one more.
+-- One more turn of a loop.
 pub range-more : {B : Type 0} (g : ℕ → List B) (a s : ℕ) → a ≤ s → flatMap g (range a (s + 1 - a)) ≡ flatMap g (range a (s - a)) ++ g s
 unfolding flatMap range
 range-more g a s h =

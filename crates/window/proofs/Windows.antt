@@ -1,5 +1,5 @@
--- The two derivations of a window's value, as the code writes them.
-use mathlib.Core.Path.{_≡_, refl, sym, _∙_, ap}
+-- The records of a window's key, as the code writes them.
+use mathlib.Core.Path.{_≡_, refl, sym, _∙_}
 use mathlib.Core.Bool.{Bool, true, false, cond}
 use mathlib.Core.List.{List, [], _∷_, _++_, append-nil, flatMap, map}
 use Prim.Native.Nat.{ℕ, zero, suc, _+_, _-_, _*_, _≤_, _<_}
@@ -22,6 +22,8 @@ use Rattle.cert.proofs.Summands.{if-low, if-high, if-own, only-if-low, only-if-
 use Rattle.cert.proofs.WindowDerivations.{range-around}
 use Rattle.window.specs.Window.{added, firstOther, Handed, summand, tokensOf, windowPair}
 use Rattle.window.proofs.Totals.{added-length, range-first, range-skip, total-length}
+
+-- ---- the two derivations of value v: its only-if where o is true, else its if
 
 module _ (o : Bool) (step-at : Key → ℕ → ℕ) (n : ℕ) (x : Node) (v : ℕ) where
   abbrev summands : ℕ → List Token
@@ -107,7 +109,8 @@ module _ (o : Bool) (step-at : Key → ℕ → ℕ) (n : ℕ) (x : Node) (v : �
 
 -- ---- the records of a window's key
 
-pub read-range : (g : ℕ → ℕ) (l : List ℕ) (f m : ℕ) → f + m ≤ length l → ((s : ℕ) → f < s → s ≤ f + m → g s ≡ getD l (s - 1) 0)
+-- The outputs of a window stand in a row.
+read-range : (g : ℕ → ℕ) (l : List ℕ) (f m : ℕ) → f + m ≤ length l → ((s : ℕ) → f < s → s ≤ f + m → g s ≡ getD l (s - 1) 0)
     → take m (drop f l) ≡ map g (range (f + 1) m)
 unfolding range
 read-range g l f zero h k = refl
@@ -118,6 +121,7 @@ read-range g l f (suc m) h k =
     let z : suc (f + 1) ≡ suc f + 1 = omega arith in
     rw (drop-cons l f 0 (omega arith), more, first, z)
 
+-- What `put_window` writes.
 pub window-is : (firsts outs : List ℕ) (step-at : Key → ℕ → ℕ) (t : List Node) (n f m : ℕ) → f + m ≤ length outs
     → Handed firsts outs step-at n (at t n) f m
     → flatMap numbers (flatMap (windowPair step-at n (at t n) f m) (range (f + 1) m))

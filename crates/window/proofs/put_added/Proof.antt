@@ -1,6 +1,5 @@
 -- `window::put_added` meets its contract: the summand at `value` is empty, and adding it writes nothing.
 use borrow.Author.Needs.{needs}
-use Rattle.record.specs.Record.{tokenNumbers}
 use Rattle.record.proofs.Writing.{after}
 use Rattle.cert.specs.Definitions.{addSequence}
 use Rattle.window.proofs.Totals.{added-some}
