@@ -17,3 +17,6 @@ pub mod Matching
 pub mod Numbers
 pub mod Lengths
 pub mod Answers
+pub mod Verdicts
+pub mod Offered
+pub mod Formed

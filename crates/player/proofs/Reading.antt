@@ -86,7 +86,7 @@ local-code true = local-get _ (λ c. local-refuse 4)
 local-code false = local-get _ local-arguments
 
 -- A command takes at least a byte.
-command-front : (closed : Bool) (bs : List ℕ) (c : Command) (rest : List ℕ) → readCommand closed bs ≡ command c rest → (front : List ℕ)
+pub command-front : (closed : Bool) (bs : List ℕ) (c : Command) (rest : List ℕ) → readCommand closed bs ≡ command c rest → (front : List ℕ)
     × (bs ≡ front ++ rest) × (0 < length front) × ((r : List ℕ) → readCommand closed (front ++ r) ≡ command c r)
 unfolding readCommand get readIn above
 command-front closed [] c rest e = absurd (let z : _≡_ {A = ℕ} 0 1 = cc in omega arith)

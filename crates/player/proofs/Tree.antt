@@ -1,5 +1,5 @@
 -- Each node stands under at most one join, so a join is as long as there are leaves at most, and there are fewer joins than leaves:
--- variables stay low.
+-- nodes are few and variables stay low.
 use mathlib.Core.Path.{_≡_, refl, sym, _∙_, ap, subst}
 use mathlib.Core.Bool.{Bool, true, false, _&&_, _||_, not as notb}
 use mathlib.Core.Logic.{_≢_}
@@ -169,18 +169,19 @@ pub record Treed (h : Head) (s : State) : Type 0 where
   pub short : free len (s .nodes) ≤ leafCount (s .nodes)
   pub each : (n : ℕ) → n < length (s .nodes) → len (at (s .nodes) n) ≤ 64
   pub low : s .next-variable + 64 * free one (s .nodes) ≤ h .variable + 64 * leafCount (s .nodes)
+  pub paired : length (s .nodes) + free one (s .nodes) ≡ 2 * leafCount (s .nodes)
 
 pub treed-start : (h : Head) → Treed h (start h)
 unfolding start leafCount free sumTo
-treed-start h = record { few = omega arith; short = omega arith; each = λ n h. absurd (omega arith); low = omega arith }
+treed-start h = record { few = omega arith; short = omega arith; each = λ n h. absurd (omega arith); low = omega arith; paired = refl }
 
-leafCount-leaf : (t : List Node) (l : ℕ) → leafCount (t ++ (leaf l ∷ [])) ≡ leafCount t + 1
+pub leafCount-leaf : (t : List Node) (l : ℕ) → leafCount (t ++ (leaf l ∷ [])) ≡ leafCount t + 1
 unfolding leafCount
 leafCount-leaf [] l = refl
 leafCount-leaf (leaf m ∷ t) l = omega (arith, leafCount-leaf t l)
 leafCount-leaf (join ls o a b ∷ t) l = leafCount-leaf t l
 
-leafCount-join : (t : List Node) (ls : List ℕ) (o : ℕ) (l r : Side) → leafCount (t ++ (join ls o l r ∷ [])) ≡ leafCount t
+pub leafCount-join : (t : List Node) (ls : List ℕ) (o : ℕ) (l r : Side) → leafCount (t ++ (join ls o l r ∷ [])) ≡ leafCount t
 unfolding leafCount
 leafCount-join [] ls o l r = refl
 leafCount-join (leaf m ∷ t) ls o l r = ap suc (leafCount-join t ls o l r)
@@ -207,6 +208,7 @@ treed-leaf h l s q e p k =
       short = omega (arith, k .short, leafCount-leaf t l, free-leaf len t l ok);
       each = λ n i. at-snoc t (leaf l) (λ m b. len b ≤ 64) (k .each) (omega arith) n i;
       low = omega (arith, k .low, leafCount-leaf t l, free-leaf one t l ok);
+      paired = omega (arith, k .paired, leafCount-leaf t l, free-leaf one t l ok, length-snoc t (leaf l));
     }
 
 free-last : (w : Node → ℕ) (t : List Node) (a : Node) → Ok t → isOver (length t) a ≡ false → w a ≤ free w (t ++ (a ∷ []))
@@ -233,10 +235,11 @@ treed-join h l r s f p k =
       each = λ n i. at-snoc t (join ls o l r) (λ m b. len b ≤ 64) (k .each)
           (omega (arith, k .few, k .short, e, z, long, f .left-in, f .right-in)) n i;
       low = omega (arith, k .low, k .few, k .short, leafCount-join t ls o l r, e, g, z, long, f .left-in, f .right-in, ones);
+      paired = omega (arith, k .paired, leafCount-join t ls o l r, g, ones, length-snoc t (join ls o l r));
     }
 
 treed-same : (h : Head) (s u : State) → u .nodes ≡ s .nodes → u .next-variable ≡ s .next-variable → Treed h s → Treed h u
-treed-same h s u e f k = record { few = rw e (k .few); short = rw e (k .short); each = rw e (k .each); low = rw (e, f) (k .low) }
+treed-same h s u e f k = record { few = rw e (k .few); short = rw e (k .short); each = rw e (k .each); low = rw (e, f) (k .low); paired = rw e (k .paired) }
 
 pub treed-act : (h : Head) (c : Command) (s : State) → firstNo (questions h (s .nodes) c) ≡ 0 → Sound h s → Treed h s → Treed h (act c s)
 unfolding act
@@ -255,3 +258,7 @@ treed-act h Command.Close s q p k = treed-same h s (delete s) (unfold delete in 
 -- The variables of a table stay within 4096 of the first.
 pub few-variables : {h : Head} {s : State} → Treed h s → s .next-variable ≤ h .variable + 4096
 few-variables k = omega (arith, k .low, k .few)
+
+-- There are twice as many nodes as leaves at most.
+pub few-nodes : {h : Head} {s : State} → Treed h s → length (s .nodes) ≤ 128
+few-nodes k = omega (arith, k .paired, k .few)

@@ -1,0 +1,6 @@
+-- What the code reads and writes for a clause, as facts about its memory and the state that it stands for.
+pub mod Counts
+pub mod Standing
+pub mod Firsts
+pub mod Joins
+pub mod Splits

@@ -1,0 +1,35 @@
+-- The steps of definitions, as the code reads them from its table of first steps.
+use mathlib.Core.Path.{_≡_}
+use mathlib.Core.Bool.{Bool, true, false, cond}
+use mathlib.Core.List.{List}
+use Prim.Native.Nat.{ℕ, zero, suc, _+_, _*_, _<_}
+use lib.Dec.{ltb}
+use lib.ListN.{getD}
+use Rattle.derivation.specs.Operands.{nextStep}
+use Rattle.totdb.specs.Nodes.{Node}
+use Rattle.cert.specs.Definitions.{Key}
+use Rattle.cert.specs.State.{Stored, fromIn}
+use Rattle.define.specs.Tables.{slot, Used}
+
+-- The step k places after the first. It stops where `nextStep` does.
+unfoldable pub stepAt : ℕ → ℕ → ℕ
+stepAt first k = cond (ltb first 2000000) (first + k) first
+
+-- Of a real definition of value v: only-if is the second, at value 0 the one.
+unfoldable pub realStep : ℕ → ℕ → Bool → ℕ
+unfolding nextStep
+realStep first zero b = first
+realStep first (suc v) true = nextStep first
+realStep first (suc v) false = first
+
+-- Of the a-th value of a window: the sum of value 0, then if and only-if in turn.
+unfoldable pub windowStep : ℕ → ℕ → ℕ → Bool → ℕ
+unfolding stepAt
+windowStep origin first zero b = origin
+windowStep origin first (suc i) true = stepAt first (2 * i + 1)
+windowStep origin first (suc i) false = stepAt first (2 * i)
+
+-- The table of first steps is that of what is stored, over the nodes t.
+pub record FirstsOf (t : List Node) (firsts : List ℕ) (es : List Stored) : Type 0 where
+  pub is : (k : Key) → Used t k → getD firsts (slot k) 0 ≡ fromIn es k
+  pub few : (k : Key) → fromIn es k < 2000000

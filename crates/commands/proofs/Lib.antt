@@ -1,0 +1,7 @@
+-- Laws of commands over tables.
+pub mod Room
+pub mod Ends
+pub mod Questions
+pub mod Made
+pub mod Making
+pub mod Writes

@@ -1,0 +1,172 @@
+-- The first question answered no, of a leaf, a join and a request, one by one.
+use mathlib.Core.Path.{_≡_, refl, sym, _∙_, ap}
+use mathlib.Core.Bool.{Bool, true, false, _&&_, _||_, not as notb}
+use mathlib.Core.List.{List}
+use Prim.Native.Nat.{ℕ, _+_, _-_, _*_, _≤_, _<_}
+use native.Mathlib.Omega.{arith}
+use borrow.Author.Tests.{lt-ltb, le-ltb, le-leb, lt-leb, eq-eqb, ne-eqb}
+use lib.ListN.{length, getD}
+use Rattle.pb.specs.Sum.{variable, neg}
+use Rattle.totdb.specs.Nodes.{Node, leaf, join, at, leaves, len, known, taken, leafCount}
+use Rattle.totdb.specs.declared.Side.{Side}
+use Rattle.cert.specs.State.{Head}
+use Rattle.request.specs.Rows.{sideIn, RowOf, Rows}
+use Rattle.player.specs.Player.{firstNo, questions, sideFits}
+use Rattle.player.specs.declared.Command.{Command}
+use Rattle.commands.specs.Standing.{fitsOver}
+
+module _ (h : Head) (t : List Node) (l : ℕ) where
+  pub leaf-6 : h .variable ≤ variable l → firstNo (questions h t (Command.Leaf l)) ≡ 6
+  unfolding questions firstNo
+  leaf-6 p = rw (le-ltb (variable l) (h .variable) p)
+
+  module _ (low : variable l < h .variable) where
+    pub leaf-known : known t l ≡ true → firstNo (questions h t (Command.Leaf l)) ≡ 0
+    unfolding questions firstNo
+    leaf-known p = rw (lt-ltb (variable l) (h .variable) low, p)
+
+    module _ (new : known t l ≡ false) where
+      pub leaf-negated : known t (neg l) ≡ true → firstNo (questions h t (Command.Leaf l)) ≡ 7
+      unfolding questions firstNo
+      leaf-negated p = rw (lt-ltb (variable l) (h .variable) low, new, p)
+
+      pub leaf-many : known t (neg l) ≡ false → 64 ≤ leafCount t → firstNo (questions h t (Command.Leaf l)) ≡ 7
+      unfolding questions firstNo
+      leaf-many p q = rw (lt-ltb (variable l) (h .variable) low, new, p, le-ltb (leafCount t) 64 q)
+
+      pub leaf-new : known t (neg l) ≡ false → leafCount t < 64 → firstNo (questions h t (Command.Leaf l)) ≡ 0
+      unfolding questions firstNo
+      leaf-new p q = rw (lt-ltb (variable l) (h .variable) low, new, p, lt-ltb (leafCount t) 64 q)
+
+module _ (h : Head) (t : List Node) (l r : Side) where
+  pub join-left : length t ≤ l .node → firstNo (questions h t (Command.Join l r)) ≡ 8
+  unfolding questions firstNo
+  join-left p = rw (le-ltb (l .node) (length t) p)
+
+  module _ (left : l .node < length t) where
+    pub join-right : length t ≤ r .node → firstNo (questions h t (Command.Join l r)) ≡ 8
+    unfolding questions firstNo
+    join-right p = rw (lt-ltb (l .node) (length t) left, le-ltb (r .node) (length t) p)
+
+    module _ (right : r .node < length t) where
+      pub join-same : l .node ≡ r .node → firstNo (questions h t (Command.Join l r)) ≡ 9
+      unfolding questions firstNo
+      join-same p = rw (lt-ltb (l .node) (length t) left, lt-ltb (r .node) (length t) right, eq-eqb (l .node) (r .node) p)
+
+      module _ (apart : ¬ (l .node ≡ r .node)) where
+        pub join-left-taken : taken t (l .node) ≡ true → firstNo (questions h t (Command.Join l r)) ≡ 9
+        unfolding questions firstNo
+        join-left-taken p = rw (lt-ltb (l .node) (length t) left, lt-ltb (r .node) (length t) right, ne-eqb (l .node) (r .node) apart, p)
+
+        module _ (left-free : taken t (l .node) ≡ false) where
+          pub join-right-taken : taken t (r .node) ≡ true → firstNo (questions h t (Command.Join l r)) ≡ 9
+          unfolding questions firstNo
+          join-right-taken p =
+              rw (lt-ltb (l .node) (length t) left, lt-ltb (r .node) (length t) right, ne-eqb (l .node) (r .node) apart, left-free, p)
+
+          module _ (right-free : taken t (r .node) ≡ false) where
+            pub join-left-out : sideFits t l ≡ false → firstNo (questions h t (Command.Join l r)) ≡ 10
+            unfolding questions firstNo
+            join-left-out p =
+                rw (lt-ltb (l .node) (length t) left, lt-ltb (r .node) (length t) right, ne-eqb (l .node) (r .node) apart, left-free, right-free, p)
+
+            module _ (left-in : sideFits t l ≡ true) where
+              pub join-right-out : sideFits t r ≡ false → firstNo (questions h t (Command.Join l r)) ≡ 10
+              unfolding questions firstNo
+              join-right-out p =
+                  rw (
+                    lt-ltb (l .node) (length t) left,
+                    lt-ltb (r .node) (length t) right,
+                    ne-eqb (l .node) (r .node) apart,
+                    left-free,
+                    right-free,
+                    left-in,
+                    p,
+                  )
+
+              pub join-fits-both : sideFits t r ≡ true → firstNo (questions h t (Command.Join l r)) ≡ 0
+              unfolding questions firstNo
+              join-fits-both p =
+                  rw (
+                    lt-ltb (l .node) (length t) left,
+                    lt-ltb (r .node) (length t) right,
+                    ne-eqb (l .node) (r .node) apart,
+                    left-free,
+                    right-free,
+                    left-in,
+                    p,
+                  )
+
+module _ (h : Head) (t : List Node) (n v d : ℕ) where
+  pub request-8 : length t ≤ n → firstNo (questions h t (Command.Request n v d)) ≡ 8
+  unfolding questions firstNo
+  request-8 p = rw (le-ltb n (length t) p)
+
+  module _ (there : n < length t) where
+    pub request-zero : v ≡ 0 → firstNo (questions h t (Command.Request n v d)) ≡ 11
+    unfolding questions firstNo
+    request-zero p = rw (lt-ltb n (length t) there, lt-leb 1 v (omega arith))
+
+    module _ (above : 1 ≤ v) where
+      pub request-high : len (at t n) < v → firstNo (questions h t (Command.Request n v d)) ≡ 11
+      unfolding questions firstNo
+      request-high p = rw (lt-ltb n (length t) there, le-leb 1 v above, lt-leb v (len (at t n)) p)
+
+      module _ (within : v ≤ len (at t n)) where
+        pub request-none : d ≡ 0 → firstNo (questions h t (Command.Request n v d)) ≡ 12
+        unfolding questions firstNo
+        request-none p = rw (lt-ltb n (length t) there, le-leb 1 v above, le-leb v (len (at t n)) within, lt-leb 1 d (omega arith))
+
+        module _ (some : 1 ≤ d) where
+          pub request-many : 3 < d → firstNo (questions h t (Command.Request n v d)) ≡ 12
+          unfolding questions firstNo
+          request-many p = rw (lt-ltb n (length t) there, le-leb 1 v above, le-leb v (len (at t n)) within, le-leb 1 d some, lt-leb d 3 p)
+
+          pub request-right : d ≤ 3 → firstNo (questions h t (Command.Request n v d)) ≡ 0
+          unfolding questions firstNo
+          request-right p = rw (lt-ltb n (length t) there, le-leb 1 v above, le-leb v (len (at t n)) within, le-leb 1 d some, le-leb d 3 p)
+
+-- ---- one side
+
+module _ (s : Side) (n : ℕ) where
+  pub fits-offset : n ≤ s .offset → fitsOver s n ≡ false
+  unfolding fitsOver
+  fits-offset p = rw (le-ltb (s .offset) n p)
+
+  module _ (below : s .offset < n) where
+    pub fits-limit : n - s .offset < s .limit → fitsOver s n ≡ false
+    unfolding fitsOver
+    fits-limit p = rw (lt-ltb (s .offset) n below, lt-leb (s .limit) (n - s .offset) p)
+
+    module _ (within : s .limit ≤ n - s .offset) where
+      pub fits-shifted : ¬ (s .offset ≡ 0) → fitsOver s n ≡ true
+      unfolding fitsOver
+      fits-shifted p = rw (lt-ltb (s .offset) n below, le-leb (s .limit) (n - s .offset) within, ne-eqb (s .offset) 0 p)
+
+      pub fits-whole : s .offset ≡ 0 → s .limit ≡ n → fitsOver s n ≡ false
+      unfolding fitsOver
+      fits-whole p q = rw (lt-ltb (s .offset) n below, le-leb (s .limit) (n - s .offset) within, eq-eqb (s .offset) 0 p, eq-eqb (s .limit) n q)
+
+      pub fits-part : s .offset ≡ 0 → ¬ (s .limit ≡ n) → fitsOver s n ≡ true
+      unfolding fitsOver
+      fits-part p q = rw (lt-ltb (s .offset) n below, le-leb (s .limit) (n - s .offset) within, eq-eqb (s .offset) 0 p, ne-eqb (s .limit) n q)
+
+-- ---- the table
+
+-- The length of a node stands in its row.
+pub row-len : (ns : List ℕ) (t : List Node) → Rows ns t → (n : ℕ) → n < length t → getD ns (8 * n) 0 ≡ len (at t n)
+unfolding len leaves
+row-len ns t r n h = by (at t n) (r .row n h)
+  where
+    by : (x : Node) → RowOf ns n x → getD ns (8 * n) 0 ≡ length (leaves x)
+    by (leaf l) q = let k : (getD ns (8 * n) 0 ≡ 1) × (getD ns (8 * n + 7) 0 ≡ 0) = unfold RowOf in q in k .0
+    by (join ls o a b) q =
+        let k : (getD ns (8 * n) 0 ≡ length ls) × (sideIn ns (8 * n + 1) ≡ a) × (sideIn ns (8 * n + 4) ≡ b) × (getD ns (8 * n + 7) 0 ≡ 1) =
+        unfold RowOf in q in
+        k .0
+
+pub side-fits : (ns : List ℕ) (t : List Node) → Rows ns t → (s : Side) → s .node < length t → (b : Bool) → fitsOver s (getD ns (8 * s .node) 0) ≡ b
+    → sideFits t s ≡ b
+side-fits ns t r s h b e =
+    let over : sideFits t s ≡ fitsOver s (len (at t (s .node))) = unfold sideFits fitsOver in refl in
+    over ∙ ap (fitsOver s) (sym (row-len ns t r (s .node) h)) ∙ e

@@ -1,0 +1,69 @@
+-- `commands::request` meets its contract: a question that fails, or what the request writes and its end.
+use mathlib.Core.Path.{refl, sym, _∙_}
+use native.Mathlib.Omega.{arith}
+use borrow.Author.Needs.{needs}
+use Rattle.player.specs.declared.Command.{Command}
+use Rattle.commands.proofs.Ends.{at-within, refused-early}
+use Rattle.commands.proofs.Writes.{fitting, request-tables, request-shown, requested}
+use Rattle.commands.proofs.request.Statement.{statement}
+use Rattle.commands.proofs.request.Tie as tie
+
+ask-request-requires : tie.Need-ask-request-requires
+ask-request-requires c κs = search needs
+
+returns : tie.Need-returns
+returns c =
+    λ h p s st.
+    let a = c .before .before .before .before .before .before .before .before .before .args in
+    refused-early h p (a .nodes .now) (a .leaves .now) (a .outputs .now) (a .held .now) (a .firsts .now) (a .steps .now) (a .log .now) (a .t) s st (Command.Request (a .node) (a .value) (a .direction)) (c .before .ask-request .result) (omega (arith, c .if1 .taken))
+    (sym (c .before .ask-request .ensures h (s .nodes) (st .rows) (sym (st .nodes)))) _ refl refl
+
+request-requires : tie.Need-request-requires
+request-requires c κs =
+    let a = c .before .before .before .before .before .before .before .before .before .before .before .before .before .before .args in
+    let ready = c .before .before .before .before .before .before .before .before .before .before .before .before .before .before .pre in
+    let st = ready .standing in
+    let asked = sym (c .before .before .before .before .before .before .ask-request .ensures (ready .head) (ready .state .nodes) (st .rows) (sym (st .nodes))) ∙ c .before .before .before .before .before .if1 .left in
+    let f = fitting (ready .head) (ready .capacity) (a .nodes .now) (a .leaves .now) (a .outputs .now) (a .held .now) (a .firsts .now) (a .steps .now) (a .log .now) (a .t) (ready .state) st (a .node) (a .value) (a .direction) asked in (
+      request-tables (ready .head) (ready .capacity) (a .nodes .now) (a .leaves .now) (a .outputs .now) (a .held .now) (a .firsts .now) (a .steps .now) (a .log .now) (a .t) (ready .state) st (a .node) (a .value) (a .direction) asked,
+      (request-shown (ready .head) (ready .capacity) (a .nodes .now) (a .leaves .now) (a .outputs .now) (a .held .now) (a .firsts .now) (a .steps .now) (a .log .now) (a .t) (ready .state) st (a .node) (a .value) (a .direction) asked, (f .dir-low, f .dir-high)),
+    )
+
+end-requires : tie.Need-end-requires
+end-requires c κs =
+    let a = c .before .before .before .before .before .before .before .before .before .before .before .before .before .before .before .before .before .before .before .before .before .before .before .before .args in
+    let ready = c .before .before .before .before .before .before .before .before .before .before .before .before .before .before .before .before .before .before .before .before .before .before .before .before .pre in
+    omega (arith, at-within (ready .head) (ready .capacity) (a .nodes .now) (a .leaves .now) (a .outputs .now) (a .held .now) (a .firsts .now) (a .steps .now) (a .log .now) (a .t) (ready .state) (ready .standing))
+
+same-length : tie.Need-same-length
+same-length c = search needs
+
+same-length-2 : tie.Need-same-length-2
+same-length-2 c = search needs
+
+same-length-3 : tie.Need-same-length-3
+same-length-3 c = search needs
+
+same-length-4 : tie.Need-same-length-4
+same-length-4 c = search needs
+
+returns-2 : tie.Need-returns-2
+returns-2 c =
+    λ h p s st.
+    let a = c .before .before .before .before .before .before .before .before .before .before .before .before .before .before .before .before .before .before .before .before .before .before .before .before .before .before .before .args in
+    let asked = sym (c .before .before .before .before .before .before .before .before .before .before .before .before .before .before .before .before .before .before .before .ask-request .ensures h (s .nodes) (st .rows) (sym (st .nodes))) ∙ c .before .before .before .before .before .before .before .before .before .before .before .before .before .before .before .before .before .before .if1 .left in
+    requested h p (a .nodes .now) (a .leaves .now) (a .outputs .now) (a .held .now) (a .firsts .now) (a .steps .now) (a .log .now) (a .t) s st (a .node) (a .value) (a .direction) asked _ _ _ _ _ (c .before .before .before .before .before .before .before .before .before .before .before .before .request .ensures) _ _ (c .before .before .end .ensures .0) (c .before .before .end .ensures .1)
+
+pub request-spec : {M : Type 1} → statement M
+request-spec =
+    tie.close
+    (tie.spec
+    ask-request-requires
+    returns
+    request-requires
+    end-requires
+    same-length
+    same-length-2
+    same-length-3
+    same-length-4
+    returns-2)

@@ -1,0 +1,89 @@
+-- The records of a real definition, as `put_real` writes them, and how many they are.
+use mathlib.Core.Path.{_≡_, refl}
+use mathlib.Core.Bool.{true, false}
+use mathlib.Core.Logic.{dite}
+use mathlib.Core.List.{List, [], _∷_, _++_, map, flatMap, append-nil}
+use Prim.Native.Nat.{ℕ, zero, suc, _+_, _-_, _≤_, _<_}
+use native.Mathlib.Decide.{decLt}
+use native.Mathlib.Omega.{arith}
+use Rattle.pb.specs.Sum.{_·_, neg, units, keep}
+use Rattle.record.specs.Record.{Record, numbers, steps, sum}
+use Rattle.record.specs.Writing.{signed}
+use Rattle.totdb.specs.Nodes.{Node, leaves, len, output}
+use Rattle.cert.specs.Definitions.{realRecords, realIf, realOnlyIf, atLeastZero}
+
+-- ---- the three cases
+
+real-zero : (x : Node) (v : ℕ) → v ≡ 0 → realRecords x v ≡ atLeastZero (leaves x) ∷ []
+unfolding realRecords
+real-zero x zero h = refl
+real-zero x (suc v) h = absurd (omega arith)
+
+real-above : (x : Node) (v : ℕ) → 0 < v → len x < v → realRecords x v ≡ atLeastZero (map neg (leaves x)) ∷ []
+unfolding realRecords
+real-above x zero h k = absurd (omega arith)
+real-above x (suc v) h k = by (decLt (len x) (suc v))
+  where
+    by : (d : Dec (len x < suc v))
+        → dite {C = List Record} d (λ _. atLeastZero (map neg (leaves x)) ∷ []) (λ _. realIf x (suc v) ∷ realOnlyIf x (suc v) ∷ [])
+        ≡ atLeastZero (map neg (leaves x)) ∷ []
+    by (yes p) = refl
+    by (no p) = absurd (p k)
+
+real-within : (x : Node) (v : ℕ) → 0 < v → v ≤ len x → realRecords x v ≡ realIf x v ∷ realOnlyIf x v ∷ []
+unfolding realRecords
+real-within x zero h k = absurd (omega arith)
+real-within x (suc v) h k = by (decLt (len x) (suc v))
+  where
+    by : (d : Dec (len x < suc v))
+        → dite {C = List Record} d (λ _. atLeastZero (map neg (leaves x)) ∷ []) (λ _. realIf x (suc v) ∷ realOnlyIf x (suc v) ∷ [])
+        ≡ realIf x (suc v) ∷ realOnlyIf x (suc v) ∷ []
+    by (yes p) = absurd (omega arith)
+    by (no p) = refl
+
+-- ---- their numbers
+
+keep-some : (c l : ℕ) → 0 < c → keep c l [] ≡ c · l ∷ []
+unfolding keep
+keep-some zero l h = absurd (omega arith)
+keep-some (suc c) l h = refl
+
+pub at-least-zero : (ls : List ℕ) → numbers (sum 0 (units ls ++ keep 0 0 []) 0) ≡ flatMap numbers (atLeastZero ls ∷ [])
+unfolding flatMap atLeastZero keep
+at-least-zero ls = rw (append-nil (units ls), append-nil (numbers (sum 0 (units ls) 0)))
+
+module _ (x : Node) (v : ℕ) where
+  pub zero-is : v ≡ 0 → numbers (sum 0 (units (signed false (leaves x)) ++ keep 0 0 []) 0) ≡ flatMap numbers (realRecords x v)
+  unfolding signed
+  zero-is h = rw (real-zero x v h) (at-least-zero (leaves x))
+
+  pub above-is : 0 < v → len x < v → numbers (sum 0 (units (signed true (leaves x)) ++ keep 0 0 []) 0) ≡ flatMap numbers (realRecords x v)
+  unfolding signed
+  above-is h k = rw (real-above x v h k) (at-least-zero (map neg (leaves x)))
+
+  pub within-is : 0 < v → v ≤ len x
+      → numbers (sum (output x v + 1) (units (signed true (leaves x)) ++ keep (len x + 1 - v) (output x v) []) (len x + 1 - v))
+      ++ numbers (sum (neg (output x v) + 1) (units (signed false (leaves x)) ++ keep v (neg (output x v)) []) v)
+      ≡ flatMap numbers (realRecords x v)
+  unfolding signed flatMap realIf realOnlyIf
+  within-is h k =
+      rw (
+        real-within x v h k,
+        keep-some (len x + 1 - v) (output x v) (omega arith),
+        keep-some v (neg (output x v)) h,
+        append-nil (numbers (sum (neg (output x v) + 1) (units (leaves x) ++ (v · neg (output x v) ∷ [])) v)),
+      )
+
+  -- ---- how many they are
+
+  pub zero-steps : v ≡ 0 → 1 ≡ steps (realRecords x v)
+  unfolding steps atLeastZero
+  zero-steps h = rw (real-zero x v h)
+
+  pub above-steps : 0 < v → len x < v → 1 ≡ steps (realRecords x v)
+  unfolding steps atLeastZero
+  above-steps h k = rw (real-above x v h k)
+
+  pub within-steps : 0 < v → v ≤ len x → 2 ≡ steps (realRecords x v)
+  unfolding steps realIf realOnlyIf
+  within-steps h k = rw (real-within x v h k)

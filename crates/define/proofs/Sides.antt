@@ -1,0 +1,174 @@
+-- What a value of a side looks up: nothing, a real definition, or the window.
+use mathlib.Core.Path.{_≡_, refl, _∙_}
+use mathlib.Core.Bool.{true, false}
+use mathlib.Core.Logic.{dite}
+use mathlib.Core.List.{List, [], _∷_}
+use Prim.Native.Nat.{ℕ, zero, suc, _+_, _-_, _*_, _≤_, _<_}
+use native.Mathlib.Decide.{decLe}
+use native.Mathlib.Omega.{arith}
+use Rattle.memo.specs.Visit.{each}
+use Rattle.totdb.specs.Nodes.{Node, at, lengthOver, limited, plainOr, keyed, sideLen, sideLit}
+use Rattle.totdb.specs.declared.Side.{Side}
+use Rattle.cert.specs.Definitions.{Direction, if, only-if, Key, real, window, stored, lacking, oneDef, realDef, windowDef, longDef, sideDef}
+use Rattle.cert.specs.Requests.{keyOf, lacks}
+use Rattle.cert.specs.State.{lookUp}
+use Rattle.define.specs.Tables.{Lists, Memory, Shown, Does, RealOf, WindowIn, SideIn}
+use Rattle.define.proofs.Does.{shown-to}
+use Rattle.define.proofs.Slots.{node-short, side-inside}
+use Rattle.define.proofs.Written.{true-false}
+
+-- ---- the key of a definition
+
+one-keys : (o i : ℕ) (d : Direction) → keyOf (oneDef o i d) ≡ []
+unfolding oneDef keyOf
+one-keys o zero if = refl
+one-keys o zero only-if = refl
+one-keys o (suc zero) d = refl
+one-keys o (suc (suc i)) if = refl
+one-keys o (suc (suc i)) only-if = refl
+
+or-keys : {P : Type 0} (c : Dec P) (k : Key) (i : ℕ) → lacks (dite c (λ _. stored k i) (λ _. lacking)) ≡ false
+    → keyOf (dite c (λ _. stored k i) (λ _. lacking)) ≡ k ∷ []
+unfolding keyOf lacks
+or-keys (yes p) k i h = refl
+or-keys (no p) k i h = true-false refl h
+
+real-keys : (m n i : ℕ) (d : Direction) → lacks (realDef m n i d) ≡ false → keyOf (realDef m n i d) ≡ real n i ∷ []
+unfolding realDef
+real-keys m n zero if h = unfold lacks in true-false refl h
+real-keys m n zero only-if h = unfold keyOf in refl
+real-keys m n (suc v) if h = unfold keyOf in refl
+real-keys m n (suc v) only-if h = or-keys (decLe (suc v) m) (real n (suc v)) 1 h
+
+window-keys : (n f m i : ℕ) (d : Direction) → lacks (windowDef n f m i d) ≡ false → keyOf (windowDef n f m i d) ≡ window n f m ∷ []
+unfolding windowDef
+window-keys n f m zero if h = unfold lacks in true-false refl h
+window-keys n f m zero only-if h = unfold keyOf in refl
+window-keys n f m (suc i) if h = unfold keyOf in refl
+window-keys n f m (suc i) only-if h = or-keys (decLe (suc i) m) (window n f m) (2 * i + 2) h
+
+-- ---- plain, or a window
+
+long-plain : (m n f k i : ℕ) (d : Direction) → plainOr f k true false ≡ true → longDef m n f k i d ≡ realDef m n i d
+unfolding longDef plainOr
+long-plain m n zero zero i d h = refl
+long-plain m n zero (suc k) i d h = true-false h refl
+long-plain m n (suc f) k i d h = true-false h refl
+
+long-window : (m n f k i : ℕ) (d : Direction) → plainOr f k true false ≡ false → longDef m n f k i d ≡ windowDef n f m i d
+unfolding longDef plainOr
+long-window m n zero zero i d h = true-false refl h
+long-window m n zero (suc k) i d h = refl
+long-window m n (suc f) k i d h = refl
+
+plain-zero : (f k : ℕ) → plainOr f k true false ≡ true → (f ≡ 0) × (k ≡ 0)
+unfolding plainOr
+plain-zero zero zero h = (refl, refl)
+plain-zero zero (suc k) h = true-false h refl
+plain-zero (suc f) k h = true-false h refl
+
+module _ (s : Side) (plain : plainOr (s .offset) (s .limit) true false ≡ true) where
+  plain-keyed : (a : ℕ) → keyed s a ≡ a
+  unfolding keyed
+  plain-keyed zero = refl
+  plain-keyed (suc a) = omega (arith, plain-zero (s .offset) (s .limit) plain .0)
+
+  plain-length : (k : ℕ) → lengthOver s k ≡ k
+  unfolding limited
+  plain-length k =
+      let p = plain-zero (s .offset) (s .limit) plain in
+      let e : k - 0 ≡ k = omega arith in
+      rw (p .0, p .1, e)
+
+module _ (t : List Node) (s : Side) (a : ℕ) (d : Direction) where
+  short-keys : sideLen t s ≤ 1 → keyOf (sideDef t s a d) ≡ []
+  unfolding sideDef
+  short-keys h = by (decLe (sideLen t s) 1)
+    where
+      by : (c : Dec (sideLen t s ≤ 1))
+          → keyOf (dite c (λ _. oneDef (sideLit t s 1) a d) (λ _. longDef (sideLen t s) (s .node) (s .offset) (s .limit) a d)) ≡ []
+      by (yes p) = one-keys (sideLit t s 1) a d
+      by (no p) = absurd (p h)
+
+  long-side : 1 < sideLen t s → sideDef t s a d ≡ longDef (sideLen t s) (s .node) (s .offset) (s .limit) a d
+  unfolding sideDef
+  long-side h = by (decLe (sideLen t s) 1)
+    where
+      by : (c : Dec (sideLen t s ≤ 1))
+          → dite c (λ _. oneDef (sideLit t s 1) a d) (λ _. longDef (sideLen t s) (s .node) (s .offset) (s .limit) a d)
+          ≡ longDef (sideLen t s) (s .node) (s .offset) (s .limit) a d
+      by (yes p) = absurd (omega arith)
+      by (no p) = refl
+
+  plain-keys : 1 < sideLen t s → plainOr (s .offset) (s .limit) true false ≡ true → lacks (sideDef t s a d) ≡ false
+      → keyOf (sideDef t s a d) ≡ real (s .node) (keyed s a) ∷ []
+  plain-keys h p l =
+      let e = long-side h ∙ long-plain (sideLen t s) (s .node) (s .offset) (s .limit) a d p in
+      rw (e, plain-keyed s p a) (real-keys (sideLen t s) (s .node) a d (rw e at l))
+
+  side-keys : 1 < sideLen t s → plainOr (s .offset) (s .limit) true false ≡ false → lacks (sideDef t s a d) ≡ false
+      → keyOf (sideDef t s a d) ≡ window (s .node) (s .offset) (sideLen t s) ∷ []
+  side-keys h p l =
+      let e = long-side h ∙ long-window (sideLen t s) (s .node) (s .offset) (s .limit) a d p in
+      rw e (window-keys (s .node) (s .offset) (sideLen t s) a d (rw e at l))
+
+-- ---- the code of a side's lookup
+
+side-length : (t : List Node) (s : Side) (k a : ℕ) → SideIn t s k a → sideLen t s ≡ lengthOver s k
+unfolding sideLen
+side-length t s k a i = rw (i .node-len)
+
+window-in : (s : Side) (k a : ℕ) → 1 < lengthOver s k → (t : List Node) → SideIn t s k a → WindowIn t (s .node) k (s .offset) (lengthOver s k)
+window-in s k a h t i = record {
+  shown = record { side = s; of = i .of; node = refl; offset = refl; outputs = side-length t s k a i; long = h };
+  node-len = i .node-len;
+}
+
+abbrev SideDoes : (ls os : List ℕ) → Side → ℕ → ℕ → Direction → Memory → Memory → Type 0
+SideDoes ls os s k a d m n =
+    Does ls os (λ t. SideIn t s k a × (lacks (sideDef t s a d) ≡ false)) (λ t u. each (lookUp t) (keyOf (sideDef t s a d)) u) m n
+
+module _ {ls os : List ℕ} (s : Side) (k a : ℕ) where
+  pub side-bounds : Shown ls os (λ t. SideIn t s k a) → (s .offset ≤ 64) × (a ≤ 65)
+  side-bounds h =
+      let q = side-inside (h .lists) s (h .holds .of) in
+      let b = node-short (h .lists) (s .node) (q .0) in
+      omega (arith, q .1, b .1, h .holds .value)
+
+  plain-in : plainOr (s .offset) (s .limit) true false ≡ true → (t : List Node) → Lists ls os t → SideIn t s k a → RealOf t (s .node) k (keyed s a)
+  plain-in p t l i = record {
+    there = side-inside l s (i .of) .0;
+    node-len = i .node-len;
+    value = omega (arith, plain-keyed s p a, plain-length s p k, side-length t s k a i, i .value);
+  }
+
+  pub plain-shown : plainOr (s .offset) (s .limit) true false ≡ true → Shown ls os (λ t. SideIn t s k a)
+      → Shown ls os (λ t. RealOf t (s .node) k (keyed s a))
+  plain-shown p h = shown-to (plain-in p) h
+
+  pub window-shown : 1 < lengthOver s k → Shown ls os (λ t. SideIn t s k a)
+      → Shown ls os (λ t. WindowIn t (s .node) k (s .offset) (lengthOver s k))
+  window-shown g h = shown-to (λ t l i. window-in s k a g t i) h
+
+  pub short-does : (d : Direction) {m : Memory} → lengthOver s k ≤ 1 → SideDoes ls os s k a d m m
+  unfolding each
+  short-does d h = record {
+    does = λ c t u l p st. rw (short-keys t s a d (rw (side-length t s k a (p .0)) h)) st;
+  }
+
+  pub plain-does : (d : Direction) {m n : Memory} → 1 < lengthOver s k → plainOr (s .offset) (s .limit) true false ≡ true
+      → Does ls os (λ t. RealOf t (s .node) k (keyed s a)) (λ t u. lookUp t (real (s .node) (keyed s a)) u) m n → SideDoes ls os s k a d m n
+  unfolding each
+  plain-does d h p x = record {
+    does = λ c t u l q st. rw (plain-keys t s a d (rw (side-length t s k a (q .0)) h) p (q .1)) (x .does c t u l (plain-in p t l (q .0)) st);
+  }
+
+  pub side-does : (d : Direction) {m n : Memory} → 1 < lengthOver s k → plainOr (s .offset) (s .limit) true false ≡ false
+      → Does ls os (λ t. WindowIn t (s .node) k (s .offset) (lengthOver s k)) (λ t u. lookUp t (window (s .node) (s .offset) (lengthOver s k)) u) m n
+      → SideDoes ls os s k a d m n
+  unfolding each
+  side-does d h p x = record {
+    does = λ c t u l q st.
+        let e = side-length t s k a (q .0) in
+        rw (side-keys t s a d (rw e h) p (q .1), e) (x .does c t u l (window-in s k a h t (q .0)) st);
+  }

@@ -1,0 +1,60 @@
+-- Rows copied: one turn of a loop, and what a row holds.
+use mathlib.Core.Path.{_≡_, refl, _∙_}
+use mathlib.Core.Bool.{Bool, true, false, cond}
+use mathlib.Core.List.{List}
+use Prim.Native.Nat.{ℕ, zero, suc, _+_, _*_, _≤_, _<_}
+use native.Mathlib.Numerals.{add-one}
+use native.Mathlib.Nat.{le-antisymm}
+use native.Mathlib.Omega.{arith}
+use lib.ListN.{length, getD, set, take, drop, length-take, length-drop, length-map}
+use lib.Seq.{paste, paste-suc}
+use Rattle.totdb.specs.Nodes.{lengthOver, plainOr, range}
+use Rattle.totdb.specs.declared.Side.{Side}
+use Rattle.cert.proofs.Apart.{length-range}
+use Rattle.nodes.specs.Copied.{literalsIn, literalsFrom}
+
+-- ---- a loop that copies
+
+pub copy-more : (d : List ℕ) (at : ℕ) (s : List ℕ) (i : ℕ) (l : List ℕ) (x : ℕ) → l ≡ paste d at s i → x ≡ getD s i 0 → at + i < length d
+    → i < length s → set l (at + i) x ≡ paste d at s (i + 1)
+copy-more d at s i l x p q h k = rw (add-one, p, q) (paste-suc d at s i 0 h k)
+
+pub copy-all : (d : List ℕ) (at : ℕ) (s : List ℕ) (i n : ℕ) (l : List ℕ) → l ≡ paste d at s i → i ≤ n → n ≤ i → l ≡ paste d at s n
+copy-all d at s i n l p h k = let e : i ≡ n = le-antisymm h k in rw e at p
+
+-- ---- the literals of new variables
+
+pub length-from : (v n : ℕ) → length (literalsFrom v n) ≡ n
+unfolding literalsFrom
+length-from v n = length-map (range v n) (λ (u : ℕ). 2 * u) ∙ length-range v n
+
+pub from-at : (v n i : ℕ) → i < n → 2 * (v + i) ≡ getD (literalsFrom v n) i 0
+unfolding literalsFrom range
+from-at v zero i h = absurd (omega arith)
+from-at v (suc n) zero h = omega arith
+from-at v (suc n) (suc i) h = let e = from-at (suc v) n i (omega arith) in omega arith
+
+-- ---- the literals of a side
+
+pub plain-cond : (f k : ℕ) (ls os : List ℕ) → cond (plainOr f k true false) ls os ≡ plainOr f k ls os
+unfolding plainOr
+plain-cond zero zero ls os = refl
+plain-cond zero (suc k) ls os = refl
+plain-cond (suc f) k ls os = refl
+
+pub length-plainOr : (f k n : ℕ) (ls os : List ℕ) → length ls ≡ n → length os ≡ n → length (plainOr f k ls os) ≡ n
+unfolding plainOr
+length-plainOr zero zero n ls os p q = p
+length-plainOr zero (suc k) n ls os p q = q
+length-plainOr (suc f) k n ls os p q = q
+
+pub length-in : (ls os : List ℕ) (s : Side) (k : ℕ) → length ls ≡ 20416 → length os ≡ 20416 → s .node < 319 → s .offset + lengthOver s k ≤ 64
+    → length (literalsIn ls os s k) ≡ lengthOver s k
+unfolding literalsIn
+length-in ls os s k p q h g =
+    simp (length-take, length-drop) (omega (arith, length-plainOr (s .offset) (s .limit) 20416 ls os p q))
+
+pub part-is : (ls os : List ℕ) (s : Side) (k n : ℕ) (b : Bool) (l : List ℕ) → n ≡ lengthOver s k → b ≡ plainOr (s .offset) (s .limit) true false
+    → l ≡ take n (drop (64 * s .node + s .offset) (cond b ls os)) → l ≡ literalsIn ls os s k
+unfolding literalsIn
+part-is ls os s k n b l p q e = e ∙ rw (p, q, plain-cond (s .offset) (s .limit) ls os)

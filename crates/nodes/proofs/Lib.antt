@@ -1,0 +1,7 @@
+-- What the code of the tables rests on.
+pub mod Adding
+pub mod Copying
+pub mod Having
+pub mod Joining
+pub mod Parts
+pub mod Placing

@@ -1,0 +1,96 @@
+-- What every command keeps of a state, and that question 13 is put in vain.
+use mathlib.Core.Path.{_≡_, refl, sym, subst}
+use mathlib.Core.Bool.{Bool, true, false, _&&_}
+use mathlib.Core.Logic.{⊎-elim}
+use mathlib.Core.List.{List, [], _∷_, _++_, List·Memᴰ, List·Memᴰ·not-nil, List·Memᴰ·append-cases, List·Memᴰ·eq-of-singleton}
+use Prim.Native.Nat.{ℕ, _≤_}
+use borrow.Author.Tests.{leb-true}
+use lib.Dec.{leb}
+use lib.ListN.{length, drop}
+use Rattle.totdb.specs.Nodes.{Node, leaf, joined, len, known}
+use Rattle.cert.specs.Requests.{Request}
+use Rattle.cert.specs.State.{State, start, define, write, hold, requests, serve, Head}
+use Rattle.cert.proofs.Apart.{Right, sized-ok}
+use Rattle.cert.proofs.Counts.{Counted, counted-start}
+use Rattle.cert.proofs.Fits.{KeyFits, key-falls, request-falls, looked-fit}
+use Rattle.cert.proofs.Serving.{serve-keeps}
+use Rattle.cert.proofs.Tables.{right-more}
+use Rattle.player.specs.Player.{headFits, firstNo, questions, make, delete, act, anyLacks}
+use Rattle.player.specs.declared.Command.{Command}
+use Rattle.player.proofs.Counts.{counted-act}
+use Rattle.player.proofs.Offered.{offered}
+use Rattle.player.proofs.Refusal.{and-true}
+use Rattle.player.proofs.Sound.{Sound, sound-start, sound-act, request-fits, requests-asked, requests-right, serve-nodes}
+use Rattle.player.proofs.Tree.{Treed, treed-start, treed-act}
+
+-- Every request that is held asks for a value of its node.
+abbrev pub Held : List Node → State → Type 0
+Held t s = (x : Request) → List·Memᴰ x (s .held) → Right t x
+
+pub record Formed (h : Head) (s : State) : Type 0 where
+  pub head : headFits h ≡ true
+  pub sound : Sound h s
+  pub treed : Treed h s
+  pub counted : Counted h s
+  pub held : Held (s .nodes) s
+
+pub formed-start : (h : Head) → headFits h ≡ true → Formed h (start h)
+unfolding start
+formed-start h e = record {
+  head = e;
+  sound = sound-start h;
+  treed = treed-start h;
+  counted = counted-start h;
+  held = λ x m. absurd (List·Memᴰ·not-nil m);
+}
+
+held-make : (a : Node) (n : ℕ) (s : State) → Held (s .nodes) s → Held (make a n s .nodes) (make a n s)
+unfolding make
+held-make a n s k x m = right-more (s .nodes) (a ∷ []) x (k x m)
+
+held-hold : (t : List Node) (x : Request) (s : State) → Right t x → Held t s → Held t (hold x s)
+unfolding hold
+held-hold t x s r k y m = ⊎-elim (k y) (λ i. subst (Right t) (sym (List·Memᴰ·eq-of-singleton i)) r) (List·Memᴰ·append-cases (s .held) m)
+
+held-act : (h : Head) (c : Command) (s : State) → firstNo (questions h (s .nodes) c) ≡ 0 → Sound h s → Held (s .nodes) s
+    → Held (act c s .nodes) (act c s)
+unfolding act
+held-act h (Command.Leaf l) s q p k = by (known (s .nodes) l)
+  where
+    by : (b : Bool)
+        → Held (elim b as (λ _. State) [ true ↦ s | false ↦ make (leaf l) 0 s ] .nodes) (elim b as (λ _. State) [ true ↦ s | false ↦ make (leaf l) 0 s ])
+    by true = k
+    by false = held-make (leaf l) 0 s k
+held-act h (Command.Join l r) s q p k =
+    held-make (joined (s .nodes) (s .next-variable) l r) (len (joined (s .nodes) (s .next-variable) l r)) s k
+held-act h (Command.Request n v d) s q p k =
+    let t = s .nodes in
+    let f = request-fits h t n v d q in
+    let a = requests-asked t n v d f in
+    subst (λ (x : List Node). Held x (serve t (requests n v d) s)) (sym (serve-nodes t (sized-ok t (p .sized)) (requests n v d) a s .0))
+    (serve-keeps t (Right t) (KeyFits t) (request-falls t (p .sized)) (key-falls t) (looked-fit t (p .sized)) (Held t)
+    (λ k u g n b r. unfold define in r) (λ x c u i m b r. unfold write in r) (λ x u i r. held-hold t x u i r) (requests n v d) (requests-right t n v d f)
+    a s k)
+held-act h Command.Close s q p k = unfold delete in k
+
+pub formed-act : (h : Head) (c : Command) (s : State) → firstNo (questions h (s .nodes) c) ≡ 0 → Formed h s → Formed h (act c s)
+formed-act h c s q f = record {
+  head = f .head;
+  sound = sound-act h c s q (f .sound);
+  treed = treed-act h c s q (f .sound) (f .treed);
+  counted = counted-act h c s q (f .sound) (f .counted);
+  held = held-act h c s q (f .sound) (f .held);
+}
+
+-- Question 13 is answered yes.
+pub all-offered : (h : Head) (c : Command) (s : State) → firstNo (questions h (s .nodes) c) ≡ 0 → Formed h s
+    → anyLacks (act c s .nodes) (drop (length (s .held)) (act c s .held)) ≡ false
+all-offered h c s q f = offered (act c s .nodes) (length (s .held)) (act c s .held) (held-act h c s q (f .sound) (f .held))
+
+-- The limits of the head.
+pub head-low : (h : Head) → headFits h ≡ true → (h .variable ≤ 1000000) × (1 ≤ h .step) × (h .step ≤ 1000000)
+unfolding headFits
+head-low h e =
+    let first = and-true (leb (h .variable) 1000000 && leb 1 (h .step)) (leb (h .step) 1000000) e in
+    let both = and-true (leb (h .variable) 1000000) (leb 1 (h .step)) (first .0) in
+    (leb-true (h .variable) 1000000 (both .0), leb-true 1 (h .step) (both .1), leb-true (h .step) 1000000 (first .1))

@@ -1,0 +1,126 @@
+-- Question 13 is never answered no: each definition that the clauses of a value of a node look up has the direction wanted.
+use mathlib.Core.Path.{_≡_, refl, subst, sym}
+use mathlib.Core.Bool.{Bool, true, false, _||_}
+use mathlib.Core.Logic.{dite, ⊎-elim}
+use mathlib.Core.List.{List, [], _∷_, List·Memᴰ, List·Memᴰ·head, List·Memᴰ·tail, List·Memᴰ·not-nil, Memᴰ·of-map}
+use Prim.Native.Nat.{ℕ, zero, suc, _+_, _-_, _*_, _≤_}
+use native.Mathlib.Decide.{decLe}
+use native.Mathlib.Omega.{arith}
+use lib.ListN.{length, drop}
+use Rattle.totdb.specs.Nodes.{Node, leaf, join, at, len, any, sideLen, sideLit}
+use Rattle.totdb.specs.declared.Side.{Side}
+use Rattle.cert.specs.Definitions.{Direction, if, only-if, real, window, stored, lacking, oneDef, realDef, windowDef, longDef, sideDef}
+use Rattle.cert.specs.Requests.{Request, request, Clause, ifClause, onlyIfClause, splits, clausesOf, clausesAt, lacks, lacksOne}
+use Rattle.cert.proofs.Apart.{Right, Sized, Fit, splits-mem}
+use Rattle.player.specs.Player.{anyLacks}
+
+any-none : {A : Type 0} (f : A → Bool) (l : List A) → ((a : A) → List·Memᴰ a l → f a ≡ false) → any f l ≡ false
+unfolding any
+any-none f [] h = refl
+any-none f (a ∷ l) h = rw (h a (List·Memᴰ·head refl)) (any-none f l (λ b m. h b (List·Memᴰ·tail m)))
+
+drop-mem : {A : Type 0} (k : ℕ) (l : List A) (a : A) → List·Memᴰ a (drop k l) → List·Memᴰ a l
+drop-mem zero l a m = m
+drop-mem (suc k) [] a m = m
+drop-mem (suc k) (b ∷ l) a m = List·Memᴰ·tail (drop-mem k l a m)
+
+-- An if from value 1 on, and an only-if up to the length.
+module _ (m n : ℕ) where
+  real-if-has : (v : ℕ) → 1 ≤ v → lacks (realDef m n v if) ≡ false
+  unfolding realDef lacks
+  real-if-has zero h = absurd (omega arith)
+  real-if-has (suc v) h = refl
+
+  real-only-has : (v : ℕ) → v ≤ m → lacks (realDef m n v only-if) ≡ false
+  unfolding realDef lacks
+  real-only-has zero h = refl
+  real-only-has (suc v) h = by (decLe (suc v) m)
+    where
+      by : (d : Dec (suc v ≤ m)) → lacks (dite d (λ _. stored (real n (suc v)) 1) (λ _. lacking)) ≡ false
+      by (yes p) = refl
+      by (no p) = absurd (p h)
+
+  window-if-has : (f i : ℕ) → 1 ≤ i → lacks (windowDef n f m i if) ≡ false
+  unfolding windowDef lacks
+  window-if-has f zero h = absurd (omega arith)
+  window-if-has f (suc i) h = refl
+
+  window-only-has : (f i : ℕ) → i ≤ m → lacks (windowDef n f m i only-if) ≡ false
+  unfolding windowDef lacks
+  window-only-has f zero h = refl
+  window-only-has f (suc i) h = by (decLe (suc i) m)
+    where
+      by : (d : Dec (suc i ≤ m)) → lacks (dite d (λ _. stored (window n f m) (2 * i + 2)) (λ _. lacking)) ≡ false
+      by (yes p) = refl
+      by (no p) = absurd (p h)
+
+  long-if-has : (f k i : ℕ) → 1 ≤ i → lacks (longDef m n f k i if) ≡ false
+  unfolding longDef
+  long-if-has zero zero i h = real-if-has i h
+  long-if-has zero (suc k) i h = window-if-has zero i h
+  long-if-has (suc f) k i h = window-if-has (suc f) i h
+
+  long-only-has : (f k i : ℕ) → i ≤ m → lacks (longDef m n f k i only-if) ≡ false
+  unfolding longDef
+  long-only-has zero zero i h = real-only-has i h
+  long-only-has zero (suc k) i h = window-only-has zero i h
+  long-only-has (suc f) k i h = window-only-has (suc f) i h
+
+one-if-has : (o i : ℕ) → 1 ≤ i → lacks (oneDef o i if) ≡ false
+unfolding oneDef lacks
+one-if-has o zero h = absurd (omega arith)
+one-if-has o (suc zero) h = refl
+one-if-has o (suc (suc i)) h = refl
+
+one-only-has : (o i : ℕ) → i ≤ 1 → lacks (oneDef o i only-if) ≡ false
+unfolding oneDef lacks
+one-only-has o zero h = refl
+one-only-has o (suc zero) h = refl
+one-only-has o (suc (suc i)) h = absurd (omega arith)
+
+module _ (t : List Node) (s : Side) (i : ℕ) where
+  pub side-if-has : 1 ≤ i → lacks (sideDef t s i if) ≡ false
+  unfolding sideDef
+  side-if-has h = by (decLe (sideLen t s) 1)
+    where
+      by : (d : Dec (sideLen t s ≤ 1))
+          → lacks (dite d (λ _. oneDef (sideLit t s 1) i if) (λ _. longDef (sideLen t s) (s .node) (s .offset) (s .limit) i if)) ≡ false
+      by (yes p) = one-if-has (sideLit t s 1) i h
+      by (no p) = long-if-has (sideLen t s) (s .node) (s .offset) (s .limit) i h
+
+  pub side-only-has : i ≤ sideLen t s → lacks (sideDef t s i only-if) ≡ false
+  unfolding sideDef
+  side-only-has h = by (decLe (sideLen t s) 1)
+    where
+      by : (d : Dec (sideLen t s ≤ 1))
+          → lacks (dite d (λ _. oneDef (sideLit t s 1) i only-if) (λ _. longDef (sideLen t s) (s .node) (s .offset) (s .limit) i only-if)) ≡ false
+      by (yes p) = one-only-has (sideLit t s 1) i (omega arith)
+      by (no p) = long-only-has (sideLen t s) (s .node) (s .offset) (s .limit) i h
+
+none-lacks : (c : Clause) → lacks (c .left) ≡ false → lacks (c .right) ≡ false → lacks (c .this) ≡ false → lacksOne c ≡ false
+unfolding lacksOne
+none-lacks c p q r = rw (p, q, r)
+
+clause-offered : (t : List Node) (x : Request) (c : Clause) → Right t x → List·Memᴰ c (clausesOf t x) → lacksOne c ≡ false
+unfolding clausesOf clausesAt Right ifClause onlyIfClause
+clause-offered t (request n v d) c g m = go (at t n) d (g .2) m
+  where
+    go : (a : Node) (d : Direction) → v ≤ len a → List·Memᴰ c (clausesAt t n a v d) → lacksOne c ≡ false
+    go (leaf a) d l m = absurd (List·Memᴰ·not-nil m)
+    go (join ls o a b) if l m =
+        let j = Memᴰ·of-map (ifClause t n (join ls o a b) a b v) (splits v (sideLen t a) (sideLen t b)) m in
+        let p = splits-mem v (sideLen t a) (sideLen t b) (j .0) (j .1) in
+        subst (λ (z : Clause). lacksOne z ≡ false) (j .2)
+        (none-lacks (ifClause t n (join ls o a b) a b v (j .0)) (side-only-has t a (j .0) (omega (arith, p)))
+        (side-only-has t b (v - j .0) (omega (arith, p))) (real-if-has (len (join ls o a b)) n v (omega (arith, g .1))))
+    go (join ls o a b) only-if l m =
+        let j = Memᴰ·of-map (onlyIfClause t n (join ls o a b) a b v) (splits (v - 1) (sideLen t a) (sideLen t b)) m in
+        subst (λ (z : Clause). lacksOne z ≡ false) (j .2)
+        (none-lacks (onlyIfClause t n (join ls o a b) a b v (j .0)) (side-if-has t a (suc (j .0)) (omega arith))
+        (side-if-has t b (suc (v - 1 - j .0)) (omega arith)) (real-only-has (len (join ls o a b)) n v l))
+
+pub offered : (t : List Node) (k : ℕ) (held : List Request) → ((x : Request) → List·Memᴰ x held → Right t x) → anyLacks t (drop k held) ≡ false
+unfolding anyLacks
+offered t k held right =
+    any-none (λ (x : Request). any lacksOne (clausesOf t x)) (drop k held)
+    (λ x m. any-none lacksOne (clausesOf t x) (λ c i. clause-offered t x c (right x (drop-mem k held x m)) i))

@@ -1,0 +1,734 @@
+-- The proof of the cycle of calls {join_request, node_request, side_request}.
+-- The measures at node n: 3n + 1 of a join's needs, 3n + 2 of a request, 3n + 3 of a side.
+-- The loop's invariant: the literals below i are asked for.
+use native.Mathlib.Omega.{arith}
+use borrow.Author.Needs.{needs}
+use mathlib.Core.Path.{_≡_, refl, sym, ap, _∙_}
+use Prim.Native.Nat.{ℕ, _+_, _-_, _*_, _≤_, _<_}
+use lib.ListN.{length, length-set}
+use Rattle.clauses.specs.declared.Join.{Join}
+use Rattle.define.specs.Tables.{memory, direction}
+use Rattle.request.specs.Rows.{Tables}
+use Rattle.request.proofs.Does.{does-full, shown-to}
+use Rattle.request.proofs.Grow.{ask-grows}
+use Rattle.request.proofs.Steps.{tables-kept, node-held, node-leaf, node-join, join-done, Lower, side-none, side-more, side-done}
+use Rattle.request.proofs.Table.{side-fits, left-below, right-below, node-few, asked-flagged, asked-row, asked-join, asked-left, asked-right-side, asked-below}
+use borrow.Fn.Kinds.{In}
+use borrow.Fn.PlainCycle.{Measures, is, falls, and}
+use Rattle.request.proofs.join_request.Reads as join-request
+use Rattle.request.proofs.join_request.Kinds as join-request-kinds
+use Rattle.request.proofs.+join_request+node_request+side_request.Lts-join_request as join-request-lts
+use Rattle.request.proofs.node_request.Reads as node-request
+use Rattle.request.proofs.node_request.Kinds as node-request-kinds
+use Rattle.request.proofs.+join_request+node_request+side_request.Lts-node_request as node-request-lts
+use Rattle.request.proofs.side_request.Reads as side-request
+use Rattle.request.proofs.side_request.Kinds as side-request-kinds
+use Rattle.request.proofs.+join_request+node_request+side_request.Lts-side_request as side-request-lts
+use Rattle.request.proofs.highest.Reads as highest-reads
+use Rattle.request.proofs.join_at.Reads as join-at-reads
+use Rattle.request.proofs.lowest.Reads as lowest-reads
+use Rattle.request.proofs.number_at.Reads as number-at-reads
+use Rattle.request.proofs.place.Reads as place-reads
+use Rattle.request.proofs.write_request.Reads as write-request-reads
+use Rattle.totdb.proofs.Side.len.Reads as len-reads
+use Rattle.request.proofs.+join_request+node_request+side_request.{statement}
+use Rattle.request.proofs.+join_request+node_request+side_request.Tie.{close}
+
+abbrev μ-join-request : Measures 7 join-request-kinds.ps ℕ
+μ-join-request κs a =
+    3 * a .1 .1 .1 .1 .1 .1 .1 .1 .0 .node + 1
+
+abbrev μ-node-request : Measures 7 node-request-kinds.ps ℕ
+μ-node-request κs a =
+    3 * a .1 .1 .1 .1 .1 .1 .1 .1 .0 + 2
+
+abbrev μ-side-request : Measures 7 side-request-kinds.ps ℕ
+μ-side-request κs a =
+    3 * a .1 .1 .1 .1 .1 .1 .1 .1 .0 .node + 3
+
+abbrev join-request-at : ℕ → In 7 join-request-kinds.ps
+join-request-at t =
+    and 7 join-request-kinds.ps (is 7 join-request-kinds.ps μ-join-request t) join-request.Pre
+
+abbrev join-request-below : ℕ → In 7 join-request-kinds.ps
+join-request-below t =
+    and
+    7
+    join-request-kinds.ps
+    (falls 7 join-request-kinds.ps _<_ μ-join-request t)
+    join-request.Pre
+
+abbrev node-request-at : ℕ → In 7 node-request-kinds.ps
+node-request-at t =
+    and 7 node-request-kinds.ps (is 7 node-request-kinds.ps μ-node-request t) node-request.Pre
+
+abbrev node-request-below : ℕ → In 7 node-request-kinds.ps
+node-request-below t =
+    and
+    7
+    node-request-kinds.ps
+    (falls 7 node-request-kinds.ps _<_ μ-node-request t)
+    node-request.Pre
+
+abbrev side-request-at : ℕ → In 7 side-request-kinds.ps
+side-request-at t =
+    and 7 side-request-kinds.ps (is 7 side-request-kinds.ps μ-side-request t) side-request.Pre
+
+abbrev side-request-below : ℕ → In 7 side-request-kinds.ps
+side-request-below t =
+    and
+    7
+    side-request-kinds.ps
+    (falls 7 side-request-kinds.ps _<_ μ-side-request t)
+    side-request.Pre
+
+join-request-len-requires : (t : ℕ) → join-request-lts.Need-len-requires (
+  len-reads.Asked,
+  len-reads.Learnt,
+  side-request-below t,
+  side-request.Post,
+) (join-request-at t) join-request.Post
+join-request-len-requires t c κs =
+    tt
+
+join-request-len-requires-2 : (t : ℕ) → join-request-lts.Need-len-requires-2 (
+  len-reads.Asked,
+  len-reads.Learnt,
+  side-request-below t,
+  side-request.Post,
+) (join-request-at t) join-request.Post
+join-request-len-requires-2 t c κs =
+    tt
+
+join-request-side-request-requires : (t : ℕ) → join-request-lts.Need-side-request-requires (
+  len-reads.Asked,
+  len-reads.Learnt,
+  side-request-below t,
+  side-request.Post,
+) (join-request-at t) join-request.Post
+join-request-side-request-requires t c κs =
+    let s = c .before .before .before .before .before .before .before .before .before .before .before .before .before .before .before in
+    let w = s .pre .1 .1 in (
+      omega (arith, left-below (w .lists) (w .holds .join .of), s .pre .0),
+      (s .pre .1 .0, shown-to (λ u y j. asked-left y j _ _ (c .before .before .before .before .before .len .ensures) (c .before .before .before .before .len2 .ensures)) w),
+    )
+
+join-request-side-request-requires-2 : (t : ℕ) → join-request-lts.Need-side-request-requires-2 (
+  len-reads.Asked,
+  len-reads.Learnt,
+  side-request-below t,
+  side-request.Post,
+) (join-request-at t) join-request.Post
+join-request-side-request-requires-2 t c κs =
+    let k = c .before .before .before .before .before .before .before .before .before .before .before .before .side-request in
+    let l = c .before .before .before .before .before .before .before .before .before .before .before .before .before .before .before .before .before in
+    let s = l .before .before .before .before .before .before .before .before .before .before .before in
+    let w = s .pre .1 .1 in (
+      omega (arith, right-below (w .lists) (w .holds .join .of), s .pre .0),
+      (
+        tables-kept _ _ _ (s .pre .1 .0) (k .kept .1 .1 .1 .0) (k .kept .1 .1 .1 .1 .0) (k .kept .1 .1 .1 .1 .1 .0),
+        shown-to (λ u y j. asked-right-side y j _ _ (l .before .len .ensures) (l .len2 .ensures)) w,
+      ),
+    )
+
+join-request-same-length : (t : ℕ) → join-request-lts.Need-same-length (
+  len-reads.Asked,
+  len-reads.Learnt,
+  side-request-below t,
+  side-request.Post,
+) (join-request-at t) join-request.Post
+join-request-same-length t c =
+    c .before .before .before .before .before .before .before .before .side-request2 .kept .1 .1 .1 .0 ∙ c .before .before .before .before .before .before .before .before .before .before .before .before .before .before .before .before .before .before .before .before .before .side-request .kept .1 .1 .1 .0
+
+join-request-same-length-2 : (t : ℕ) → join-request-lts.Need-same-length-2 (
+  len-reads.Asked,
+  len-reads.Learnt,
+  side-request-below t,
+  side-request.Post,
+) (join-request-at t) join-request.Post
+join-request-same-length-2 t c =
+    c .before .before .before .before .before .before .before .before .side-request2 .kept .1 .1 .1 .1 .0 ∙ c .before .before .before .before .before .before .before .before .before .before .before .before .before .before .before .before .before .before .before .before .before .side-request .kept .1 .1 .1 .1 .0
+
+join-request-same-length-3 : (t : ℕ) → join-request-lts.Need-same-length-3 (
+  len-reads.Asked,
+  len-reads.Learnt,
+  side-request-below t,
+  side-request.Post,
+) (join-request-at t) join-request.Post
+join-request-same-length-3 t c =
+    c .before .before .before .before .before .before .before .before .side-request2 .kept .1 .1 .1 .1 .1 .0 ∙ c .before .before .before .before .before .before .before .before .before .before .before .before .before .before .before .before .before .before .before .before .before .side-request .kept .1 .1 .1 .1 .1 .0
+
+join-request-same-length-4 : (t : ℕ) → join-request-lts.Need-same-length-4 (
+  len-reads.Asked,
+  len-reads.Learnt,
+  side-request-below t,
+  side-request.Post,
+) (join-request-at t) join-request.Post
+join-request-same-length-4 t c =
+    c .before .before .before .before .before .before .before .before .side-request2 .kept .1 .1 .1 .1 .1 .1 .0 ∙ c .before .before .before .before .before .before .before .before .before .before .before .before .before .before .before .before .before .before .before .before .before .side-request .kept .1 .1 .1 .1 .1 .1 .0
+
+join-request-returns : (t : ℕ) → join-request-lts.Need-returns (
+  len-reads.Asked,
+  len-reads.Learnt,
+  side-request-below t,
+  side-request.Post,
+) (join-request-at t) join-request.Post
+join-request-returns t c =
+    let second = c .before .before .before .before .before .before .before .before in
+    let first = second .before .before .before .before .before .before .before .before .before .before .before .before .before in
+    let l = first .before .before .before .before .before in
+    join-done (direction _) _ _ (l .before .len .ensures) (l .len2 .ensures) (first .side-request .ensures) (second .side-request2 .ensures)
+
+node-request-returns : (t : ℕ) → node-request-lts.Need-returns (
+  place-reads.Asked,
+  place-reads.Learnt,
+  number-at-reads.Asked,
+  number-at-reads.Learnt,
+  join-at-reads.Asked,
+  join-at-reads.Learnt,
+  join-request-below t,
+  join-request.Post,
+  write-request-reads.Asked,
+  write-request-reads.Learnt,
+) (node-request-at t) node-request.Post
+node-request-returns t c =
+    does-full (λ n m u x h. ask-grows n m u _ x h) (c .if1 .taken)
+
+node-request-place-requires : (t : ℕ) → node-request-lts.Need-place-requires (
+  place-reads.Asked,
+  place-reads.Learnt,
+  number-at-reads.Asked,
+  number-at-reads.Learnt,
+  join-at-reads.Asked,
+  join-at-reads.Learnt,
+  join-request-below t,
+  join-request.Post,
+  write-request-reads.Asked,
+  write-request-reads.Learnt,
+) (node-request-at t) node-request.Post
+node-request-place-requires t c κs =
+    let w = c .before .before .before .before .before .before .before .before .before .pre .1 .1 in
+    let z = asked-flagged (w .lists) (w .holds) in
+    (node-few (w .lists) (z .there), z .above, z .within)
+
+node-request-slice-read-if2 : (t : ℕ) → node-request-lts.Need-slice-read-if2 (
+  place-reads.Asked,
+  place-reads.Learnt,
+  number-at-reads.Asked,
+  number-at-reads.Learnt,
+  join-at-reads.Asked,
+  join-at-reads.Learnt,
+  join-request-below t,
+  join-request.Post,
+  write-request-reads.Asked,
+  write-request-reads.Learnt,
+) (node-request-at t) node-request.Post
+node-request-slice-read-if2 t c =
+    omega (arith, c .before .place .ensures .1, c .before .before .before .before .before .before .before .before .before .before .before .pre .1 .0 .held-size)
+
+node-request-returns-2 : (t : ℕ) → node-request-lts.Need-returns-2 (
+  place-reads.Asked,
+  place-reads.Learnt,
+  number-at-reads.Asked,
+  number-at-reads.Learnt,
+  join-at-reads.Asked,
+  join-at-reads.Learnt,
+  join-request-below t,
+  join-request.Post,
+  write-request-reads.Asked,
+  write-request-reads.Learnt,
+) (node-request-at t) node-request.Post
+node-request-returns-2 t c =
+    let k = c .before .before in
+    node-held (direction _) _ (k .place .ensures .0) (k .before .if1 .left) (c .if2 .taken)
+
+node-request-mul-number-at : (t : ℕ) → node-request-lts.Need-mul-number-at (
+  place-reads.Asked,
+  place-reads.Learnt,
+  number-at-reads.Asked,
+  number-at-reads.Learnt,
+  join-at-reads.Asked,
+  join-at-reads.Learnt,
+  join-request-below t,
+  join-request.Post,
+  write-request-reads.Asked,
+  write-request-reads.Learnt,
+) (node-request-at t) node-request.Post
+node-request-mul-number-at t c =
+    let w = c .before .before .before .before .before .before .before .before .before .before .before .before .pre .1 .1 in
+    omega (arith, node-few (w .lists) (w .holds .there))
+
+node-request-add-number-at : (t : ℕ) → node-request-lts.Need-add-number-at (
+  place-reads.Asked,
+  place-reads.Learnt,
+  number-at-reads.Asked,
+  number-at-reads.Learnt,
+  join-at-reads.Asked,
+  join-at-reads.Learnt,
+  join-request-below t,
+  join-request.Post,
+  write-request-reads.Asked,
+  write-request-reads.Learnt,
+) (node-request-at t) node-request.Post
+node-request-add-number-at t c =
+    let w = c .before .before .before .before .before .before .before .before .before .before .before .before .pre .1 .1 in
+    omega (arith, node-few (w .lists) (w .holds .there))
+
+node-request-number-at-requires : (t : ℕ) → node-request-lts.Need-number-at-requires (
+  place-reads.Asked,
+  place-reads.Learnt,
+  number-at-reads.Asked,
+  number-at-reads.Learnt,
+  join-at-reads.Asked,
+  join-at-reads.Learnt,
+  join-request-below t,
+  join-request.Post,
+  write-request-reads.Asked,
+  write-request-reads.Learnt,
+) (node-request-at t) node-request.Post
+node-request-number-at-requires t c κs =
+    let w = c .before .before .before .before .before .before .before .before .before .before .before .before .pre .1 .1 in
+    omega (arith, node-few (w .lists) (w .holds .there), w .holds .rows .size)
+
+node-request-slice-write-held : (t : ℕ) → node-request-lts.Need-slice-write-held (
+  place-reads.Asked,
+  place-reads.Learnt,
+  number-at-reads.Asked,
+  number-at-reads.Learnt,
+  join-at-reads.Asked,
+  join-at-reads.Learnt,
+  join-request-below t,
+  join-request.Post,
+  write-request-reads.Asked,
+  write-request-reads.Learnt,
+) (node-request-at t) node-request.Post
+node-request-slice-write-held t c =
+    omega (arith, c .before .before .before .before .place .ensures .1, c .before .before .before .before .before .before .before .before .before .before .before .before .before .before .pre .1 .0 .held-size)
+
+node-request-same-length : (t : ℕ) → node-request-lts.Need-same-length (
+  place-reads.Asked,
+  place-reads.Learnt,
+  number-at-reads.Asked,
+  number-at-reads.Learnt,
+  join-at-reads.Asked,
+  join-at-reads.Learnt,
+  join-request-below t,
+  join-request.Post,
+  write-request-reads.Asked,
+  write-request-reads.Learnt,
+) (node-request-at t) node-request.Post
+node-request-same-length t c =
+    simp length-set
+
+node-request-returns-3 : (t : ℕ) → node-request-lts.Need-returns-3 (
+  place-reads.Asked,
+  place-reads.Learnt,
+  number-at-reads.Asked,
+  number-at-reads.Learnt,
+  join-at-reads.Asked,
+  join-at-reads.Learnt,
+  join-request-below t,
+  join-request.Post,
+  write-request-reads.Asked,
+  write-request-reads.Learnt,
+) (node-request-at t) node-request.Post
+node-request-returns-3 t c =
+    let k = c .before .before .before .before in
+    node-leaf (direction _) _ (k .place .ensures .0) (k .before .if1 .left) (c .before .before .if2 .left) (sym (c .before .number-at .ensures) ∙ c .if3 .taken)
+
+node-request-join-at-requires : (t : ℕ) → node-request-lts.Need-join-at-requires (
+  place-reads.Asked,
+  place-reads.Learnt,
+  number-at-reads.Asked,
+  number-at-reads.Learnt,
+  join-at-reads.Asked,
+  join-at-reads.Learnt,
+  join-request-below t,
+  join-request.Post,
+  write-request-reads.Asked,
+  write-request-reads.Learnt,
+) (node-request-at t) node-request.Post
+node-request-join-at-requires t c κs =
+    let w = c .before .before .before .before .before .before .before .before .before .before .before .before .before .before .pre .1 .1 in
+    asked-row (w .lists) (w .holds) (λ e. c .if3 .left (c .before .number-at .ensures ∙ e))
+
+node-request-join-request-requires : (t : ℕ) → node-request-lts.Need-join-request-requires (
+  place-reads.Asked,
+  place-reads.Learnt,
+  number-at-reads.Asked,
+  number-at-reads.Learnt,
+  join-at-reads.Asked,
+  join-at-reads.Learnt,
+  join-request-below t,
+  join-request.Post,
+  write-request-reads.Asked,
+  write-request-reads.Learnt,
+) (node-request-at t) node-request.Post
+node-request-join-request-requires t c κs =
+    let j = c .before .before .before .before in
+    let k = j .before .before in
+    let s = k .before .before .before .before .before .before .before .before .before .before .before .before .before in (
+      omega (arith, ap (λ (x : Join). x .node) (j .join-at .ensures), s .pre .0),
+      (s .pre .1 .0, shown-to (λ u y w. asked-join y w _ (j .join-at .ensures) (λ e. j .before .if3 .left (k .number-at .ensures ∙ e))) (s .pre .1 .1)),
+    )
+
+node-request-write-request-requires : (t : ℕ) → node-request-lts.Need-write-request-requires (
+  place-reads.Asked,
+  place-reads.Learnt,
+  number-at-reads.Asked,
+  number-at-reads.Learnt,
+  join-at-reads.Asked,
+  join-at-reads.Learnt,
+  join-request-below t,
+  join-request.Post,
+  write-request-reads.Asked,
+  write-request-reads.Learnt,
+) (node-request-at t) node-request.Post
+node-request-write-request-requires t c κs =
+    let a = c .before .before .before .before .before .before .before .before .before .before .before .before .join-request in
+    let j = c .before .before .before .before .before .before .before .before .before .before .before .before .before .before .before .before .before in
+    let k = j .before .before in
+    let s = k .before .before .before .before .before .before .before .before .before .before .before .before .before in (
+      tables-kept _ _ _ (s .pre .1 .0) (a .kept .1 .1 .1 .0) (a .kept .1 .1 .1 .1 .0) (a .kept .1 .1 .1 .1 .1 .0),
+      shown-to (λ u y w. asked-join y w _ (j .join-at .ensures) (λ e. j .before .if3 .left (k .number-at .ensures ∙ e)) .join) (s .pre .1 .1),
+    )
+
+node-request-same-length-2 : (t : ℕ) → node-request-lts.Need-same-length-2 (
+  place-reads.Asked,
+  place-reads.Learnt,
+  number-at-reads.Asked,
+  number-at-reads.Learnt,
+  join-at-reads.Asked,
+  join-at-reads.Learnt,
+  join-request-below t,
+  join-request.Post,
+  write-request-reads.Asked,
+  write-request-reads.Learnt,
+) (node-request-at t) node-request.Post
+node-request-same-length-2 t c =
+    c .before .before .before .before .before .before .before .before .write-request .kept .1 .1 .0 ∙ c .before .before .before .before .before .before .before .before .before .before .before .before .before .before .before .before .before .before .before .before .before .join-request .kept .1 .1 .1 .0
+
+node-request-same-length-3 : (t : ℕ) → node-request-lts.Need-same-length-3 (
+  place-reads.Asked,
+  place-reads.Learnt,
+  number-at-reads.Asked,
+  number-at-reads.Learnt,
+  join-at-reads.Asked,
+  join-at-reads.Learnt,
+  join-request-below t,
+  join-request.Post,
+  write-request-reads.Asked,
+  write-request-reads.Learnt,
+) (node-request-at t) node-request.Post
+node-request-same-length-3 t c =
+    c .before .before .before .before .before .before .before .before .write-request .kept .1 .1 .1 .0 ∙ c .before .before .before .before .before .before .before .before .before .before .before .before .before .before .before .before .before .before .before .before .before .join-request .kept .1 .1 .1 .1 .0
+
+node-request-same-length-4 : (t : ℕ) → node-request-lts.Need-same-length-4 (
+  place-reads.Asked,
+  place-reads.Learnt,
+  number-at-reads.Asked,
+  number-at-reads.Learnt,
+  join-at-reads.Asked,
+  join-at-reads.Learnt,
+  join-request-below t,
+  join-request.Post,
+  write-request-reads.Asked,
+  write-request-reads.Learnt,
+) (node-request-at t) node-request.Post
+node-request-same-length-4 t c =
+    c .before .before .before .before .before .before .before .before .write-request .kept .1 .1 .1 .1 .0 ∙ c .before .before .before .before .before .before .before .before .before .before .before .before .before .before .before .before .before .before .before .before .before .join-request .kept .1 .1 .1 .1 .1 .0
+
+node-request-same-length-5 : (t : ℕ) → node-request-lts.Need-same-length-5 (
+  place-reads.Asked,
+  place-reads.Learnt,
+  number-at-reads.Asked,
+  number-at-reads.Learnt,
+  join-at-reads.Asked,
+  join-at-reads.Learnt,
+  join-request-below t,
+  join-request.Post,
+  write-request-reads.Asked,
+  write-request-reads.Learnt,
+) (node-request-at t) node-request.Post
+node-request-same-length-5 t c =
+    c .before .before .before .before .before .before .before .before .write-request .kept .1 .1 .1 .1 .1 .0 ∙ c .before .before .before .before .before .before .before .before .before .before .before .before .before .before .before .before .before .before .before .before .before .join-request .kept .1 .1 .1 .1 .1 .1 .0
+
+node-request-returns-4 : (t : ℕ) → node-request-lts.Need-returns-4 (
+  place-reads.Asked,
+  place-reads.Learnt,
+  number-at-reads.Asked,
+  number-at-reads.Learnt,
+  join-at-reads.Asked,
+  join-at-reads.Learnt,
+  join-request-below t,
+  join-request.Post,
+  write-request-reads.Asked,
+  write-request-reads.Learnt,
+) (node-request-at t) node-request.Post
+node-request-returns-4 t c =
+    let a = c .before .before .before .before .before .before .before .before .before .before .before .before .before .before .before .before .before .before .before .before .before in
+    let j = a .before .before .before .before .before in
+    let k = j .before .before .before .before .before in
+    node-join (direction _) _ (k .place .ensures .0) _ (j .join-at .ensures) (k .before .if1 .left) (j .before .before .before .if2 .left)
+    (λ e. j .before .if3 .left (j .before .before .number-at .ensures ∙ e)) (a .join-request .ensures) (c .before .before .before .before .before .before .before .before .write-request .ensures)
+
+abbrev side-request-Inv-loop : side-request-lts.InvT-loop
+side-request-Inv-loop nodes leaves outputs held₀ firsts₀ steps₀ log₀ side p q value only-if low high s₀ i₀ i-end held firsts steps log s i =
+    (low ≤ i)
+    × (i ≤ low + (i-end - low))
+    × Tables held firsts steps
+    × (length log ≡ length log₀)
+    × Lower leaves outputs nodes side p q value (direction only-if) low i (memory held₀ firsts₀ steps₀ log₀ s₀) (memory held firsts steps log s)
+
+abbrev side-request-μ-loop : side-request-lts.MeasureT-loop
+side-request-μ-loop nodes leaves outputs held₀ firsts₀ steps₀ log₀ side p q value only-if low high s₀ i₀ i-end held firsts steps log s i =
+    i-end - i
+
+side-request-lowest-requires : (t : ℕ) → side-request-lts.Need-lowest-requires (
+  lowest-reads.Asked,
+  lowest-reads.Learnt,
+  highest-reads.Asked,
+  highest-reads.Learnt,
+  node-request-below t,
+  node-request.Post,
+) (side-request-at t) side-request.Post side-request-Inv-loop side-request-μ-loop
+side-request-lowest-requires t c κs =
+    c .before .before .before .before .before .before .before .pre .1 .1 .holds .above
+
+side-request-highest-requires : (t : ℕ) → side-request-lts.Need-highest-requires (
+  lowest-reads.Asked,
+  lowest-reads.Learnt,
+  highest-reads.Asked,
+  highest-reads.Learnt,
+  node-request-below t,
+  node-request.Post,
+) (side-request-at t) side-request.Post side-request-Inv-loop side-request-μ-loop
+side-request-highest-requires t c κs =
+    tt
+
+side-request-add-i-end : (t : ℕ) → side-request-lts.Need-add-i-end (
+  lowest-reads.Asked,
+  lowest-reads.Learnt,
+  highest-reads.Asked,
+  highest-reads.Learnt,
+  node-request-below t,
+  node-request.Post,
+) (side-request-at t) side-request.Post side-request-Inv-loop side-request-μ-loop
+side-request-add-i-end t c =
+    omega (arith, c .highest .ensures, c .before .before .before .before .before .before .before .before .before .pre .1 .1 .holds .within)
+
+side-request-loop-holds : (t : ℕ) → side-request-lts.Need-loop-holds (
+  lowest-reads.Asked,
+  lowest-reads.Learnt,
+  highest-reads.Asked,
+  highest-reads.Learnt,
+  node-request-below t,
+  node-request.Post,
+) (side-request-at t) side-request.Post side-request-Inv-loop side-request-μ-loop
+side-request-loop-holds t c =
+    (omega arith, omega arith, c .before .before .before .before .before .before .before .before .before .pre .1 .0, refl, side-none (direction _) _)
+
+side-request-add-node-request : (t : ℕ) → side-request-lts.Need-add-node-request (
+  lowest-reads.Asked,
+  lowest-reads.Learnt,
+  highest-reads.Asked,
+  highest-reads.Learnt,
+  node-request-below t,
+  node-request.Post,
+) (side-request-at t) side-request.Post side-request-Inv-loop side-request-μ-loop
+side-request-add-node-request t c =
+    let w = c .before .before .before .before .before .before .before .before .before .before .before .before .before .before .before .before .pre .1 .1 in
+    let f = side-fits (w .lists) _ (w .holds .of) in
+    omega (arith, c .before .before .before .before .before .loop-test .taken, c .before .before .before .before .before .before .before .highest .ensures, w .holds .own, f .inside, f .few)
+
+side-request-node-request-requires : (t : ℕ) → side-request-lts.Need-node-request-requires (
+  lowest-reads.Asked,
+  lowest-reads.Learnt,
+  highest-reads.Asked,
+  highest-reads.Learnt,
+  node-request-below t,
+  node-request.Post,
+) (side-request-at t) side-request.Post side-request-Inv-loop side-request-μ-loop
+side-request-node-request-requires t c κs =
+    let l = c .before .before .before .before .before .before in
+    let s = l .before .before .before .before .before .before .before .before .before .before in
+    let low : 1 ≤ l .loop .i = omega (arith, l .loop .inv .0, l .before .before .lowest .ensures) in
+    let high : l .loop .i ≤ s .args .p = omega (arith, c .before .before .before .before .before .loop-test .taken, l .before .highest .ensures) in
+    (omega (arith, s .pre .0), (l .loop .inv .2, shown-to (λ u y w. asked-below y w _ low high) (s .pre .1 .1)))
+
+side-request-add-i : (t : ℕ) → side-request-lts.Need-add-i (
+  lowest-reads.Asked,
+  lowest-reads.Learnt,
+  highest-reads.Asked,
+  highest-reads.Learnt,
+  node-request-below t,
+  node-request.Post,
+) (side-request-at t) side-request.Post side-request-Inv-loop side-request-μ-loop
+side-request-add-i t c =
+    omega (arith, c .before .before .before .before .before .before .before .before .before .before .before .before .before .before .loop-test .taken, c .before .before .before .before .before .before .before .before .before .before .before .before .before .before .before .before .highest .ensures, c .before .before .before .before .before .before .before .before .before .before .before .before .before .before .before .before .before .before .before .before .before .before .before .before .before .pre .1 .1 .holds .within)
+
+side-request-loop-less : (t : ℕ) → side-request-lts.Need-loop-less (
+  lowest-reads.Asked,
+  lowest-reads.Learnt,
+  highest-reads.Asked,
+  highest-reads.Learnt,
+  node-request-below t,
+  node-request.Post,
+) (side-request-at t) side-request.Post side-request-Inv-loop side-request-μ-loop
+side-request-loop-less t c =
+    search needs
+
+side-request-loop-again : (t : ℕ) → side-request-lts.Need-loop-again (
+  lowest-reads.Asked,
+  lowest-reads.Learnt,
+  highest-reads.Asked,
+  highest-reads.Learnt,
+  node-request-below t,
+  node-request.Post,
+) (side-request-at t) side-request.Post side-request-Inv-loop side-request-μ-loop
+side-request-loop-again t c =
+    let k = c .before .before .before .before .before .before .before .before .node-request in
+    let l = c .before .before .before .before .before .before .before .before .before .before .before .before .before .before .before in
+    let s = l .before .before .before .before .before .before .before .before .before .before in
+    let high : l .loop .i ≤ s .args .p = omega (arith, c .before .before .before .before .before .before .before .before .before .before .before .before .before .before .loop-test .taken, l .before .highest .ensures) in (
+      omega (arith, l .loop .inv .0),
+      omega (arith, l .loop .inv .0, c .before .before .before .before .before .before .before .before .before .before .before .before .before .before .loop-test .taken),
+      tables-kept _ _ _ (l .loop .inv .2) (k .kept .1 .1 .1 .0) (k .kept .1 .1 .1 .1 .0) (k .kept .1 .1 .1 .1 .1 .0),
+      k .kept .1 .1 .1 .1 .1 .1 .0 ∙ l .loop .inv .3,
+      side-more (direction _) _ _ (l .loop .inv .0) (l .before .before .lowest .ensures .2) high (l .loop .inv .4) (k .ensures),
+    )
+
+side-request-same-length : (t : ℕ) → side-request-lts.Need-same-length (
+  lowest-reads.Asked,
+  lowest-reads.Learnt,
+  highest-reads.Asked,
+  highest-reads.Learnt,
+  node-request-below t,
+  node-request.Post,
+) (side-request-at t) side-request.Post side-request-Inv-loop side-request-μ-loop
+side-request-same-length t c =
+    c .before .loop .inv .2 .held-size ∙ sym (c .before .before .before .before .before .before .before .before .before .before .before .pre .1 .0 .held-size)
+
+side-request-same-length-2 : (t : ℕ) → side-request-lts.Need-same-length-2 (
+  lowest-reads.Asked,
+  lowest-reads.Learnt,
+  highest-reads.Asked,
+  highest-reads.Learnt,
+  node-request-below t,
+  node-request.Post,
+) (side-request-at t) side-request.Post side-request-Inv-loop side-request-μ-loop
+side-request-same-length-2 t c =
+    c .before .loop .inv .2 .firsts-size ∙ sym (c .before .before .before .before .before .before .before .before .before .before .before .pre .1 .0 .firsts-size)
+
+side-request-same-length-3 : (t : ℕ) → side-request-lts.Need-same-length-3 (
+  lowest-reads.Asked,
+  lowest-reads.Learnt,
+  highest-reads.Asked,
+  highest-reads.Learnt,
+  node-request-below t,
+  node-request.Post,
+) (side-request-at t) side-request.Post side-request-Inv-loop side-request-μ-loop
+side-request-same-length-3 t c =
+    c .before .loop .inv .2 .steps-size ∙ sym (c .before .before .before .before .before .before .before .before .before .before .before .pre .1 .0 .steps-size)
+
+side-request-same-length-4 : (t : ℕ) → side-request-lts.Need-same-length-4 (
+  lowest-reads.Asked,
+  lowest-reads.Learnt,
+  highest-reads.Asked,
+  highest-reads.Learnt,
+  node-request-below t,
+  node-request.Post,
+) (side-request-at t) side-request.Post side-request-Inv-loop side-request-μ-loop
+side-request-same-length-4 t c =
+    c .before .loop .inv .3
+
+side-request-returns : (t : ℕ) → side-request-lts.Need-returns (
+  lowest-reads.Asked,
+  lowest-reads.Learnt,
+  highest-reads.Asked,
+  highest-reads.Learnt,
+  node-request-below t,
+  node-request.Post,
+) (side-request-at t) side-request.Post side-request-Inv-loop side-request-μ-loop
+side-request-returns t c =
+    let l = c .before in
+    side-done (direction _) _ _ (l .loop .i) (l .before .before .lowest .ensures .0) (l .before .before .lowest .ensures .1) (l .before .highest .ensures)
+    (omega (arith, l .loop .inv .0, l .loop .inv .1, c .loop-test .left)) (l .loop .inv .4)
+
+pub +join-request+node-request+side-request-spec : {M : Type 1} → statement M
++join-request+node-request+side-request-spec =
+    close μ-join-request μ-node-request μ-side-request (λ t. join-request-lts.spec (
+      len-reads.Asked,
+      len-reads.Learnt,
+      side-request-below t,
+      side-request.Post,
+    )
+    (join-request-at t)
+    join-request.Post
+    (join-request-len-requires t)
+    (join-request-len-requires-2 t)
+    (join-request-side-request-requires t)
+    (join-request-side-request-requires-2 t)
+    (join-request-same-length t)
+    (join-request-same-length-2 t)
+    (join-request-same-length-3 t)
+    (join-request-same-length-4 t)
+    (join-request-returns t))
+    (λ t. node-request-lts.spec (
+      place-reads.Asked,
+      place-reads.Learnt,
+      number-at-reads.Asked,
+      number-at-reads.Learnt,
+      join-at-reads.Asked,
+      join-at-reads.Learnt,
+      join-request-below t,
+      join-request.Post,
+      write-request-reads.Asked,
+      write-request-reads.Learnt,
+    )
+    (node-request-at t)
+    node-request.Post
+    (node-request-returns t)
+    (node-request-place-requires t)
+    (node-request-slice-read-if2 t)
+    (node-request-returns-2 t)
+    (node-request-mul-number-at t)
+    (node-request-add-number-at t)
+    (node-request-number-at-requires t)
+    (node-request-slice-write-held t)
+    (node-request-same-length t)
+    (node-request-returns-3 t)
+    (node-request-join-at-requires t)
+    (node-request-join-request-requires t)
+    (node-request-write-request-requires t)
+    (node-request-same-length-2 t)
+    (node-request-same-length-3 t)
+    (node-request-same-length-4 t)
+    (node-request-same-length-5 t)
+    (node-request-returns-4 t))
+    λ t. side-request-lts.spec (
+      lowest-reads.Asked,
+      lowest-reads.Learnt,
+      highest-reads.Asked,
+      highest-reads.Learnt,
+      node-request-below t,
+      node-request.Post,
+    )
+    (side-request-at t)
+    side-request.Post
+    side-request-Inv-loop
+    side-request-μ-loop
+    (side-request-lowest-requires t)
+    (side-request-highest-requires t)
+    (side-request-add-i-end t)
+    (side-request-loop-holds t)
+    (side-request-add-node-request t)
+    (side-request-node-request-requires t)
+    (side-request-add-i t)
+    (side-request-loop-less t)
+    (side-request-loop-again t)
+    (side-request-same-length t)
+    (side-request-same-length-2 t)
+    (side-request-same-length-3 t)
+    (side-request-same-length-4 t)
+    (side-request-returns t)

@@ -1,0 +1,48 @@
+-- `request::write_request` meets its contract: the clauses, then the flag.
+use borrow.Author.Needs.{needs}
+use Rattle.define.specs.Tables.{direction}
+use Rattle.request.proofs.Steps.{write-done}
+use Rattle.request.proofs.Table.{node-few, join-flagged}
+use Rattle.request.proofs.write_request.Statement.{statement}
+use Rattle.request.proofs.write_request.Tie as tie
+
+write-clauses-requires : tie.Need-write-clauses-requires
+write-clauses-requires c κs = search needs
+
+place-requires : tie.Need-place-requires
+place-requires c κs =
+    let w = c .before .before .before .before .before .before .before .before .before .before .before .before .before .before .before .before .pre .1 in
+    let z = join-flagged (w .lists) (w .holds) in
+    (node-few (w .lists) (z .there), z .above, z .within)
+
+slice-write-held : tie.Need-slice-write-held
+slice-write-held c = search needs
+
+same-length : tie.Need-same-length
+same-length c = search needs
+
+same-length-2 : tie.Need-same-length-2
+same-length-2 c = search needs
+
+same-length-3 : tie.Need-same-length-3
+same-length-3 c = search needs
+
+same-length-4 : tie.Need-same-length-4
+same-length-4 c = search needs
+
+returns : tie.Need-returns
+returns c =
+    write-done _ _ (direction _) _ (c .place .ensures .0) (c .before .before .before .before .before .before .before .write-clauses .ensures _)
+
+pub write-request-spec : {M : Type 1} → statement M
+write-request-spec =
+    tie.close
+    (tie.spec
+    write-clauses-requires
+    place-requires
+    slice-write-held
+    same-length
+    same-length-2
+    same-length-3
+    same-length-4
+    returns)

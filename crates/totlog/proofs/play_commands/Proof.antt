@@ -1,0 +1,69 @@
+-- `totlog::play_commands` meets its contract: from tables of zeros, and the answer of what it comes to.
+use mathlib.Core.Path.{_∙_}
+use native.Mathlib.Omega.{arith}
+use Rattle.totlog.proofs.Begin.{standing-begin, finished-step, finished-at, finished-nodes, finished-log, finished-answer}
+use borrow.Author.Needs.{needs}
+use Rattle.totlog.proofs.play_commands.Statement.{statement}
+use Rattle.totlog.proofs.play_commands.Tie as tie
+
+slice-aggregate-play : tie.Need-slice-aggregate-play
+slice-aggregate-play c = search needs
+
+slice-aggregate-play-2 : tie.Need-slice-aggregate-play-2
+slice-aggregate-play-2 c = search needs
+
+slice-aggregate-play-3 : tie.Need-slice-aggregate-play-3
+slice-aggregate-play-3 c = search needs
+
+slice-aggregate-play-4 : tie.Need-slice-aggregate-play-4
+slice-aggregate-play-4 c = search needs
+
+slice-aggregate-play-5 : tie.Need-slice-aggregate-play-5
+slice-aggregate-play-5 c = search needs
+
+slice-aggregate-play-6 : tie.Need-slice-aggregate-play-6
+slice-aggregate-play-6 c = search needs
+
+play-requires : tie.Need-play-requires
+play-requires c κs =
+    let a = c .before .before .before .before .before .before .before .before .before .args in
+    let lent = c .before .before .before .before .before .before .before .before .before .pre in (
+      (lent .short, lent .inside),
+      record { head = (record { variable = a .variable; step = a .step }); capacity = _; standing = standing-begin (a .script .now) (a .from) (a .log .now) (record { variable = a .variable; step = a .step }) lent },
+    )
+
+answer-to-requires : tie.Need-answer-to-requires
+answer-to-requires c κs =
+    let a = c .before .before .before .before .before .before .before .before .before .before .before .before .before .before .before .before .before .before .args in
+    let lent = c .before .before .before .before .before .before .before .before .before .before .before .before .before .before .before .before .before .before .pre in
+    let f = c .before .before .before .before .before .before .before .before .play .ensures (record { variable = a .variable; step = a .step }) _ (standing-begin (a .script .now) (a .from) (a .log .now) (record { variable = a .variable; step = a .step }) lent) in
+    let at = finished-at (record { variable = a .variable; step = a .step }) _ (a .script .now) (a .from) _ _ f in (
+      finished-step (record { variable = a .variable; step = a .step }) _ (a .script .now) (a .from) _ _ f,
+      omega (arith, at, lent .small),
+      finished-nodes (record { variable = a .variable; step = a .step }) _ (a .script .now) (a .from) _ _ f,
+    )
+
+same-length : tie.Need-same-length
+same-length c = search needs
+
+returns : tie.Need-returns
+returns c =
+    let a = c .before .before .before .before .before .before .before .before .before .before .before .before .before .before .before .before .before .before .before .args in
+    let lent = c .before .before .before .before .before .before .before .before .before .before .before .before .before .before .before .before .before .before .before .pre in
+    let f = c .before .before .before .before .before .before .before .before .before .play .ensures (record { variable = a .variable; step = a .step }) _ (standing-begin (a .script .now) (a .from) (a .log .now) (record { variable = a .variable; step = a .step }) lent) in
+    (c .answer-to .ensures ∙ finished-answer (record { variable = a .variable; step = a .step }) _ (a .script .now) (a .from) _ _ f, finished-log (record { variable = a .variable; step = a .step }) _ (a .script .now) (a .from) _ _ f)
+
+pub play-commands-spec : {M : Type 1} → statement M
+play-commands-spec =
+    tie.close
+    (tie.spec
+    slice-aggregate-play
+    slice-aggregate-play-2
+    slice-aggregate-play-3
+    slice-aggregate-play-4
+    slice-aggregate-play-5
+    slice-aggregate-play-6
+    play-requires
+    answer-to-requires
+    same-length
+    returns)

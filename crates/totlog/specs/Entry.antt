@@ -1,0 +1,81 @@
+-- The answer of the entry as bytes, and what its parts are handed and come to.
+use mathlib.Core.Path.{_≡_}
+use mathlib.Core.Bool.{true, false}
+use mathlib.Core.List.{List, [], _∷_, _++_}
+use Prim.Native.Nat.{ℕ, _+_, _-_, _≤_, _/_, _%_}
+use lib.ListN.{length, take, drop, replicate}
+use Rattle.record.specs.Record.{bytes, steps}
+use Rattle.cert.specs.State.{State, start, Head}
+use Rattle.define.specs.Tables.{memory}
+use Rattle.player.specs.Player.{Outcome, outcome, plays, headFits}
+use Rattle.player.specs.Script.{Commands, readCommands}
+use Rattle.commands.specs.Standing.{Standing, Reported}
+use Rattle.commands.specs.declared.Totals.{Totals}
+use Rattle.totlog.specs.declared.Answer.{Answer}
+use Rattle.totlog.specs.declared.Ending.{Ending}
+
+-- ---- the answer
+
+-- Four bytes, low byte first.
+abbrev pub le32 : ℕ → List ℕ
+le32 x = (x % 256) ∷ (x / 256 % 256) ∷ (x / 65536 % 256) ∷ (x / 16777216) ∷ []
+
+abbrev pub bytesOf : Answer → List ℕ
+bytesOf a = le32 (a .number) ++ (le32 (a .place) ++ (le32 (a .length) ++ (le32 (a .steps) ++ (le32 (a .clauses) ++ le32 (a .nodes)))))
+
+-- l as far as n bytes reach, zeros after
+abbrev pub padded : ℕ → List ℕ → List ℕ
+padded n l = take n (l ++ replicate n 0)
+
+abbrev pub answerOf : Outcome → Answer
+answerOf o = record {
+  number = o .number;
+  place = o .place;
+  length = o .used;
+  steps = o .steps;
+  clauses = o .clauses;
+  nodes = o .nodes;
+}
+
+-- The same of a play that has ended, where the first step is `step`.
+abbrev pub answerAfter : ℕ → Ending → Answer
+answerAfter step r = record {
+  number = r .number;
+  place = r .place;
+  length = r .totals .out .cursor .at;
+  steps = r .totals .out .step - step;
+  clauses = r .totals .out .clauses;
+  nodes = r .totals .nodes;
+}
+
+-- ---- the commands
+
+-- The commands of a script from a place on, after an accepted head.
+abbrev pub commandsFrom : List ℕ → ℕ → Commands
+commandsFrom bs from = readCommands (length bs - from) false (drop from bs)
+
+abbrev pub playedFrom : List ℕ → ℕ → Head → ℕ → Outcome
+playedFrom bs from h c = plays h c (commandsFrom bs from .ending) (commandsFrom bs from .list) 0 (start h)
+
+-- The tables stand for the state that a play begins with.
+pub record Begun (ns ls os held firsts steps log : List ℕ) (z : Totals) : Type 0 where
+  pub head : Head
+  pub capacity : ℕ
+  pub standing : Standing head capacity ns ls os (memory held firsts steps log (z .out)) z (start head)
+
+-- A play that has ended in a state, which the log and the totals report.
+pub record Finished (h : Head) (c : ℕ) (cs : Commands) (log : List ℕ) (r : Ending) : Type 0 where
+  pub state : State
+  pub is : plays h c (cs .ending) (cs .list) 0 (start h) ≡ outcome c (r .number) (r .place) state
+  pub reported : Reported c log (r .totals) state
+  pub fits : length (bytes (state .log)) ≤ c
+  pub counted : state .next-step ≡ h .step + Rattle.record.specs.Record.steps (state .log)
+  pub few : length (state .nodes) ≤ 128
+
+-- What the entry's parts are lent: a script and a log of 65,536 bytes at most, the log all zeros.
+pub record Lent (script : List ℕ) (from : ℕ) (log : List ℕ) (h : Head) : Type 0 where
+  pub short : length script ≤ 65536
+  pub inside : from ≤ length script
+  pub small : length log ≤ 65536
+  pub zeros : log ≡ replicate (length log) 0
+  pub head : headFits h ≡ true
