@@ -3,7 +3,7 @@
 
 use crate::{
     desk::play,
-    format::{put, Case, Command, Reader, Side},
+    format::{put, Answer, Case, Command, Reader, Side},
     random::Random,
 };
 
@@ -221,6 +221,38 @@ pub fn case(random: &mut Random, most_leaves: u32) -> Case {
     }
     let capacity = capacity(random, &script);
     Case { script, capacity }
+}
+
+/// So many cases come from one script.
+pub const AROUND: u32 = 9;
+
+/// A script with a whole log, with logs around the length that it takes, and with damage; each with its answer.
+pub fn around(random: &mut Random) -> [(Case, Answer); AROUND as usize] {
+    let script = if random.chance(2) { large_script(random) } else { script(random, 64) };
+    let at = random.from(0, script.len() as u32 - 1) as usize;
+    let mut flipped = script.clone();
+    flipped[at] ^= 1 << random.from(0, 7);
+    let cut = script[..at].to_vec();
+    let spoiled = damaged(random, &script);
+
+    let answered = |script: &Vec<u8>, capacity| {
+        let case = Case { script: script.clone(), capacity };
+        let answer = play(&case);
+        (case, answer)
+    };
+    let whole = answered(&script, WHOLE_LOG);
+    let needed = whole.1.length;
+    [
+        whole,
+        answered(&script, needed.saturating_sub(1)),
+        answered(&script, needed),
+        answered(&script, needed + 1),
+        answered(&script, 0),
+        answered(&script, 1),
+        answered(&flipped, WHOLE_LOG),
+        answered(&cut, WHOLE_LOG),
+        answered(&spoiled, WHOLE_LOG),
+    ]
 }
 
 /// The first step number of a script whose head reads.

@@ -27,6 +27,7 @@ const USAGE: &str =
     "oracle play [LOG-LENGTH]      a script from standard input: the answer and the log in words
 oracle run SEED COUNT         plays random scripts and checks their logs; prints what came out
 oracle generate SEED COUNT    writes random cases
+oracle fresh SEED COUNT       writes random scripts, each with logs around the length it takes and with damage, answered
 oracle answer                 cases from standard input: writes them with their answers
 oracle record                 writes the recorded answers
 oracle check                  recorded answers from standard input: plays and compares each
@@ -123,6 +124,20 @@ fn put_recorded(list: &[(Case, Answer)]) {
     write_out(&out);
 }
 
+fn fresh_cases(seed: u64, count: u32) {
+    let mut random = Random::new(seed);
+    let mut out = vec![];
+    put(&mut out, count * generate::AROUND);
+    for _ in 0..count {
+        for (case, answer) in generate::around(&mut random) {
+            put_case(&mut out, &case);
+            put_answer(&mut out, &answer);
+        }
+        write_out(&out);
+        out.clear();
+    }
+}
+
 fn answer_cases() {
     let input = standard_input();
     let mut reader = Reader { rest: &input };
@@ -177,6 +192,10 @@ fn main() -> ExitCode {
         ["generate", seed, count] if seed_and_count(seed, count).is_some() => {
             let (seed, count) = seed_and_count(seed, count).expect("two numbers");
             generate_cases(seed, count);
+        }
+        ["fresh", seed, count] if seed_and_count(seed, count).is_some() => {
+            let (seed, count) = seed_and_count(seed, count).expect("two numbers");
+            fresh_cases(seed, count);
         }
         ["answer"] => answer_cases(),
         ["record"] => put_recorded(&record::list()),

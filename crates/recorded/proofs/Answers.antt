@@ -1,4 +1,4 @@
--- Recorded answers of the original, met by the definitions: one list and one theorem. oracle/to_antt writes this file from oracle/recorded.bin.
+-- Recorded answers of the original, met by the definitions: one list and one theorem. oracle/to_antt writes this file from crates/replay/stdin.
 use mathlib.Core.Path.{_≡_, refl, sym, _∙_, ap}
 use mathlib.Core.List.{List, [], _∷_, _++_, map}
 use Prim.Native.Nat.{ℕ, zero, suc, _-_, _/_, _%_}

@@ -1,0 +1,2 @@
+-- What it is to meet a recorded answer.
+pub mod Compare

@@ -1,0 +1,103 @@
+// Standard input, read piece by piece.
+use libc::STDIN_FILENO;
+use number::Reading;
+
+// The answer's six numbers.
+pub struct Answer {
+    pub number: u32,
+    pub place: u32,
+    pub length: u32,
+    pub steps: u32,
+    pub clauses: u32,
+    pub nodes: u32,
+}
+
+pub enum AnswerReading {
+    Answer(Answer),
+    Bad,
+}
+
+enum ByteReading {
+    Byte(u8),
+    End,
+}
+
+// Fills a slice. Were there as many bytes?
+pub fn fill(to: &mut [u8]) -> bool {
+    io::read_full(STDIN_FILENO, to) == to.len()
+}
+
+fn next_byte() -> ByteReading {
+    let mut one = [0u8; 1];
+    if fill(&mut one) {
+        return ByteReading::Byte(one[0]);
+    }
+    ByteReading::End
+}
+
+pub fn is_ended() -> bool {
+    if let ByteReading::End = next_byte() {
+        true
+    } else {
+        false
+    }
+}
+
+// The bytes of a number: the last is below 128, or there are three. Were there as many?
+fn fill_groups(to: &mut [u8; 3]) -> bool {
+    let mut n = 0;
+    while n < 3 {
+        let ByteReading::Byte(b) = next_byte() else {
+            return false;
+        };
+        to[n] = b;
+        if b < 128 {
+            return true;
+        }
+        n += 1;
+    }
+    true
+}
+
+// The number at the front.
+fn front(b: &[u8; 3]) -> Reading {
+    number::read(b, 0)
+}
+
+pub fn next_number() -> Reading {
+    let mut b = [0u8; 3];
+    if fill_groups(&mut b) {
+        return front(&b);
+    }
+    Reading::Bad
+}
+
+// The next six numbers.
+pub fn next_answer() -> AnswerReading {
+    let Reading::Number(number, _) = next_number() else {
+        return AnswerReading::Bad;
+    };
+    let Reading::Number(place, _) = next_number() else {
+        return AnswerReading::Bad;
+    };
+    let Reading::Number(length, _) = next_number() else {
+        return AnswerReading::Bad;
+    };
+    let Reading::Number(steps, _) = next_number() else {
+        return AnswerReading::Bad;
+    };
+    let Reading::Number(clauses, _) = next_number() else {
+        return AnswerReading::Bad;
+    };
+    let Reading::Number(nodes, _) = next_number() else {
+        return AnswerReading::Bad;
+    };
+    AnswerReading::Answer(Answer {
+        number: number,
+        place: place,
+        length: length,
+        steps: steps,
+        clauses: clauses,
+        nodes: nodes,
+    })
+}
