@@ -15,9 +15,9 @@ extern "C" {
 // Six numbers of four bytes, low byte first.
 #define TOTLOG_ANSWER_BYTES 24
 
-// The free stack that a call needs. Its tables are local arrays of about 500,000 bytes. `tests/run` measures what a call
-// takes and fails where it is more. A thread with a smaller stack has to be given one of this size at least.
-#define TOTLOG_STACK_BYTES 1048576
+// The free stack that a call needs. Its tables are local arrays: a call takes 496,032 bytes, as `tests/run` measures, which
+// fails where it is more than this. A thread with a smaller stack has to be given one of this size at least.
+#define TOTLOG_STACK_BYTES 524288
 
 // The numbers by which a script is refused.
 enum {
@@ -34,7 +34,7 @@ enum {
     TOTLOG_WINDOW = 10,        // the offset is not below the node's length, or the limit is above what is left or hides nothing
     TOTLOG_VALUE = 11,         // the value requested is not 1 to the node's length
     TOTLOG_DIRECTION = 12,     // the direction is not 1 (if), 2 (only-if) or 3 (both)
-    TOTLOG_NO_DEFINITION = 13, // a definition needed lacks the direction wanted
+    TOTLOG_NO_DEFINITION = 13, // a definition needed lacks the direction wanted; proved never to be answered
     TOTLOG_LOG_FULL = 14       // what the command writes does not fit in the log
 };
 
