@@ -63,7 +63,7 @@ place-inj n v m w only-if only-if a b p q h = let i : n ≡ m = omega arith in l
 place-inj n v m w if only-if a b p q h = absurd (omega arith)
 place-inj n v m w only-if if a b p q h = absurd (omega arith)
 
-pub place-few : (n v : ℕ) (d : Direction) → n < 319 → 1 ≤ v → v ≤ 64 → place (request n v d) < 40832
+place-few : (n v : ℕ) (d : Direction) → n < 319 → 1 ≤ v → v ≤ 64 → place (request n v d) < 40832
 unfolding place
 place-few n v if a b c = omega arith
 place-few n v only-if a b c = omega arith

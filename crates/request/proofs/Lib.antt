@@ -1,4 +1,3 @@
-pub mod Does
 pub mod Grow
 pub mod Hold
 pub mod Named

@@ -9,6 +9,7 @@ use Rattle.totdb.specs.Nodes.{range}
 use Rattle.totdb.specs.declared.Side.{Side}
 use Rattle.cert.specs.Definitions.{Direction, if, only-if}
 use Rattle.cert.specs.Requests.{Request, request, splits, positive, within, named, below}
+use Rattle.cert.proofs.WindowDerivations.{range-append}
 
 positive-range : (a n : ℕ) → 1 ≤ a → positive (range a n) ≡ range a n
 unfolding positive range
@@ -83,14 +84,8 @@ named-range only-if v p q low high h a b e =
     lowest (no k) = omega (arith, b (omega arith))
 
 -- One more of them.
-range-more : (a n : ℕ) → range a (suc n) ≡ range a n ++ ((a + n) ∷ [])
-unfolding range
-range-more a zero = let e : a + 0 ≡ a = omega arith in rw e
-range-more a (suc n) = let e : suc a + n ≡ a + suc n = omega arith in
-    ap {B = List ℕ} (λ (l : List ℕ). a ∷ l) (range-more (suc a) n ∙ rw e)
-
 pub below-more : (d : Direction) (s : Side) (a n : ℕ)
-    → below d s (range a (suc n)) ≡ below d s (range a n) ++ (request (s .node) (s .offset + (a + n)) d ∷ [])
-unfolding below
-below-more d s a n = ap (map {B = Request} (λ (i : ℕ). request (s .node) (s .offset + i) d)) (range-more a n)
+    → below d s (range a (n + 1)) ≡ below d s (range a n) ++ (request (s .node) (s .offset + (a + n)) d ∷ [])
+unfolding below range
+below-more d s a n = ap (map {B = Request} (λ (i : ℕ). request (s .node) (s .offset + i) d)) (range-append a n 1)
     ∙ map-append (λ (i : ℕ). request (s .node) (s .offset + i) d) (range a n) ((a + n) ∷ [])

@@ -15,14 +15,15 @@ use Rattle.cert.specs.Requests.{request, needs, below, clausesOf, named}
 use Rattle.cert.specs.State.{State, writeClause, writeRequest, serve, requests, directions}
 use Rattle.define.specs.Tables.{Lists, Memory, memory, Exact, exact, Does, place, flag, direction}
 use Rattle.define.specs.declared.Out.{Out}
+use Rattle.define.proofs.Does.{does-none, does-then, does-under, does-same, does-open}
+use Rattle.define.proofs.Slots.{node-short}
 use Rattle.clauses.specs.Joins.{JoinIn}
 use Rattle.clauses.specs.declared.Join.{Join}
 use Rattle.request.specs.Rows.{joinIn, askFor, askBoth, writeBoth, RequestIn, JoinAsked, SideAsked, OneByOne, if-held, only-if-held, at-leaf, AtOnce, Tables}
 use Rattle.request.proofs.Asked.{together, asked-held, asked-new, leaf-asked, serve-one, serve-first-held, serve-second-held, serve-new, serve-leaf}
-use Rattle.request.proofs.Does.{does-none, does-then, does-under, does-same, does-open}
 use Rattle.request.proofs.Hold.{flag-held, flag-new, does-hold}
 use Rattle.request.proofs.Named.{named-range, below-more}
-use Rattle.request.proofs.Table.{kind-leaf, join-needs, node-few, asked-right, asked-flagged, asked-join, asked-left, asked-right-side, join-flagged, asked-below}
+use Rattle.request.proofs.Table.{kind-leaf, join-needs, asked-right, asked-flagged, asked-join, asked-left, asked-right-side, join-flagged, asked-below}
 
 pub tables-kept : {h f k : List ℕ} (h' f' k' : List ℕ) → Tables h f k → length h' ≡ length h → length f' ≡ length f → length k' ≡ length k → Tables h' f' k'
 tables-kept h' f' k' a p q r = record { held-size = p ∙ a .held-size; firsts-size = q ∙ a .firsts-size; steps-size = r ∙ a .steps-size }
@@ -96,7 +97,7 @@ module _ {ls os : List ℕ} where
     -- The flag of a request, in the case that the tables stand for the state.
     flag-is : {c : ℕ} {t : List Node} {m : Memory} {s : State} (d : Direction) (i : ℕ) → i ≡ place (request n v d) → Lists ls os t → RequestIn ns t n v
         → Exact c t m s → getD (m .held) i 0 ≡ flag (s .held) (request n v d)
-    flag-is d i e y w x = let z = asked-flagged y w in rw e (x .held n v d (node-few y (z .there)) (z .above) (z .within))
+    flag-is d i e y w x = let z = asked-flagged y w in rw e (x .held n v d (node-short y n (z .there) .0) (z .above) (z .within))
 
     is-held : {c : ℕ} {t : List Node} {m : Memory} {s : State} (d : Direction) (i : ℕ) → i ≡ place (request n v d) → (getD (m .held) i 0 ≡ 0 → ⊥)
         → Lists ls os t → RequestIn ns t n v → Exact c t m s → List·Memᴰ (request n v d) (s .held)
@@ -151,7 +152,7 @@ module _ {ls os : List ℕ} where
         )
         (a .does c t s y (asked-join y w x q (z .at-join)) (exact room p)))
 
-  -- ---- join_request
+  -- ---- what a request needs, by the two sides
 
   pub join-done : {ns : List ℕ} {x : Join} {v : ℕ} {m a b : Memory} (d : Direction) (p q : ℕ) → p ≡ lengthOver (x .left) (x .«left_len»)
       → q ≡ lengthOver (x .right) (x .«right_len»)
@@ -181,7 +182,7 @@ module _ {ls os : List ℕ} where
     unfolding each
     side-more low i h g k a b = record {
       does = λ c t s y w x.
-          let e : i + 1 - low ≡ suc (i - low) = omega arith in
+          let e : i + 1 - low ≡ i - low + 1 = omega arith in
           let f : low + (i - low) ≡ i = omega arith in
           rw (e, below-more d z low (i - low), f, each-append (askFor t) (below d z (range low (i - low))) (request (z .node) (z .offset + i) d ∷ []) s)
           (b .does c t (each (askFor t) (below d z (range low (i - low))) s) y (asked-below y w i (omega arith) k) (a .does c t s y w x));

@@ -1,5 +1,5 @@
 -- What the table of the nodes says of a request, a join and a side.
-use mathlib.Core.Path.{_≡_, refl, sym, _∙_}
+use mathlib.Core.Path.{_≡_, refl, sym, subst, _∙_}
 use mathlib.Core.List.{List, _++_}
 use Prim.Native.Nat.{ℕ, _+_, _*_, _≤_, _<_}
 use native.Mathlib.Omega.{arith}
@@ -10,6 +10,7 @@ use Rattle.cert.specs.Definitions.{Direction}
 use Rattle.cert.specs.Requests.{request, needs, needsAt, below, named}
 use Rattle.cert.proofs.Apart.{Fit, Sized, Right}
 use Rattle.define.specs.Tables.{Lists, SideOf, left-of, right-of}
+use Rattle.define.proofs.Slots.{side-inside, node-short}
 use Rattle.clauses.specs.Joins.{JoinOf, JoinIn}
 use Rattle.clauses.specs.declared.Join.{Join}
 use Rattle.request.specs.Rows.{sideIn, joinIn, RowOf, Rows, JoinRow, RequestIn, JoinAsked, SideAsked}
@@ -22,49 +23,6 @@ pub join-is : (ns : List ℕ) (n : ℕ) (l r : Side) (a b c : ℕ) → l ≡ sid
 join-is ns n l r a b c p q e f g = rw (e, f, g, p, q)
 
 module _ {ls os : List ℕ} {t : List Node} (y : Lists ls os t) where
-  -- ---- a join of the table
-
-  module _ (m : List ℕ) (o : ℕ) (l r : Side) (n : ℕ) (there : n < length t) (is : at t n ≡ join m o l r) where
-    fit : Fit t n (join m o l r)
-    unfolding Sized
-    fit = rw (← is) (y .sized n there)
-
-    left-low : l .node < n
-    unfolding Fit
-    left-low = fit .0
-
-    right-low : r .node < n
-    unfolding Fit
-    right-low = fit .1
-
-    left-inside : l .offset + sideLen t l ≤ len (at t (l .node))
-    unfolding Fit
-    left-inside = fit .3
-
-    right-inside : r .offset + sideLen t r ≤ len (at t (r .node))
-    unfolding Fit
-    right-inside = fit .4
-
-  -- ---- a side
-
-  -- Its node is in the table, and its literals are in the node's.
-  pub record SideFits (s : Side) : Type 0 where
-    pub there : s .node < length t
-    pub inside : s .offset + sideLen t s ≤ len (at t (s .node))
-    pub few : len (at t (s .node)) ≤ 64
-
-  pub side-fits : (s : Side) → SideOf t s → SideFits s
-  side-fits s (left-of n m o r h is) = record {
-    there = omega (arith, left-low m o s r n h is);
-    inside = left-inside m o s r n h is;
-    few = y .row (s .node) (omega (arith, left-low m o s r n h is)) .short;
-  }
-  side-fits s (right-of n m o l h is) = record {
-    there = omega (arith, right-low m o l s n h is);
-    inside = right-inside m o l s n h is;
-    few = y .row (s .node) (omega (arith, right-low m o l s n h is)) .short;
-  }
-
   -- ---- rows
 
   row-len : {ns : List ℕ} → Rows ns t → (n : ℕ) → n < length t → getD ns (8 * n) 0 ≡ len (at t n)
@@ -97,24 +55,26 @@ module _ {ls os : List ℕ} {t : List Node} (y : Lists ls os t) where
             variable = o;
             is = is;
             own-len = row-len w n h;
-            left-len = row-len w (getD ns (8 * n + 1) 0) (omega (arith, left-low m o (sideIn ns (8 * n + 1)) (sideIn ns (8 * n + 4)) n h is));
-            right-len = row-len w (getD ns (8 * n + 4) 0) (omega (arith, right-low m o (sideIn ns (8 * n + 1)) (sideIn ns (8 * n + 4)) n h is));
+            left-len = row-len w (getD ns (8 * n + 1) 0) (side-inside y _ (left-of n m o (sideIn ns (8 * n + 4)) h is) .0);
+            right-len = row-len w (getD ns (8 * n + 4) 0) (side-inside y _ (right-of n m o (sideIn ns (8 * n + 1)) h is) .0);
           }
 
   -- ---- a join by value
 
   module _ {x : Join} (j : JoinOf t x) where
-    pub join-left : SideOf t (x .left)
+    join-left : SideOf t (x .left)
     join-left = left-of (x .node) (j .leaf-list) (j .variable) (x .right) (j .there) (j .is)
 
-    pub join-right : SideOf t (x .right)
+    join-right : SideOf t (x .right)
     join-right = right-of (x .node) (j .leaf-list) (j .variable) (x .left) (j .there) (j .is)
 
-    pub left-below : x .left .node < x .node
-    left-below = left-low (j .leaf-list) (j .variable) (x .left) (x .right) (x .node) (j .there) (j .is)
+    left-below : x .left .node < x .node
+    unfolding Sized Fit
+    left-below = subst (Fit t (x .node)) (j .is) (y .sized (x .node) (j .there)) .0
 
-    pub right-below : x .right .node < x .node
-    right-below = right-low (j .leaf-list) (j .variable) (x .left) (x .right) (x .node) (j .there) (j .is)
+    right-below : x .right .node < x .node
+    unfolding Sized Fit
+    right-below = subst (Fit t (x .node)) (j .is) (y .sized (x .node) (j .there)) .1
 
     left-length : sideLen t (x .left) ≡ lengthOver (x .left) (x .«left_len»)
     unfolding sideLen
@@ -130,12 +90,15 @@ module _ {ls os : List ℕ} {t : List Node} (y : Lists ls os t) where
     join-needs v d p q a b = rw (j .is, a, b, ← left-length, ← right-length)
 
     own-few : x .len ≤ 64
-    own-few = rw (j .own-len) (y .row (x .node) (j .there) .short)
+    own-few = rw (j .own-len) (node-short y (x .node) (j .there) .1)
+
+    left-few : sideLen t (x .left) ≤ 64
+    left-few = let f = side-inside y (x .left) join-left in omega (arith, f .1, node-short y (x .left .node) (f .0))
+
+    right-few : sideLen t (x .right) ≤ 64
+    right-few = let f = side-inside y (x .right) join-right in omega (arith, f .1, node-short y (x .right .node) (f .0))
 
   -- ---- premises
-
-  pub node-few : {n : ℕ} → n < length t → n < 319
-  node-few h = omega (arith, y .few)
 
   module _ {ns : List ℕ} {n v : ℕ} (w : RequestIn ns t n v) where
     pub asked-right : (d : Direction) → Right t (request n v d)
@@ -143,14 +106,14 @@ module _ {ls os : List ℕ} {t : List Node} (y : Lists ls os t) where
     asked-right d = (w .there, w .above, w .within)
 
     pub asked-flagged : Flagged t n v
-    asked-flagged = record { there = w .there; above = w .above; within = omega (arith, w .within, y .row n (w .there) .short) }
+    asked-flagged = record { there = w .there; above = w .above; within = omega (arith, w .within, node-short y n (w .there)) }
 
     pub asked-row : (getD ns (8 * n + 7) 0 ≡ 0 → ⊥) → JoinRow ns n
     asked-row z =
         let j = kind-join (w .rows) n (w .there) z in
         record {
           size = w .rows .size;
-          there = node-few (w .there);
+          there = node-short y n (w .there) .0;
           left-there = omega (arith, left-below j, w .there, y .few);
           right-there = omega (arith, right-below j, w .there, y .few);
         }
@@ -164,6 +127,10 @@ module _ {ls os : List ℕ} {t : List Node} (y : Lists ls os t) where
           join = record { of = j; above = w .above; within = omega (arith, w .within, row-len (w .rows) n (w .there)) };
         })
 
+    -- Its sides are at lower nodes.
+    pub asked-low : (x : Join) → x ≡ joinIn ns n → (getD ns (8 * n + 7) 0 ≡ 0 → ⊥) → (x .left .node < n) × (x .right .node < n)
+    asked-low x e z = let j = kind-join (w .rows) n (w .there) z in rw e (left-below j, right-below j)
+
   pub join-flagged : {x : Join} {v : ℕ} → JoinIn t x v → Flagged t (x .node) v
   join-flagged w = record { there = w .of .there; above = w .above; within = omega (arith, w .within, own-few (w .of)) }
 
@@ -171,29 +138,27 @@ module _ {ls os : List ℕ} {t : List Node} (y : Lists ls os t) where
     module _ (p q : ℕ) (a : p ≡ lengthOver (x .left) (x .«left_len»)) (b : q ≡ lengthOver (x .right) (x .«right_len»)) where
       pub asked-left : SideAsked ns t (x .left) p q v
       asked-left =
-          let f = side-fits (x .right) (join-right (w .join .of)) in
           record {
             rows = w .rows;
             of = join-left (w .join .of);
             own = a ∙ sym (left-length (w .join .of));
-            other = omega (arith, f .inside, f .few, right-length (w .join .of));
+            other = omega (arith, right-few (w .join .of), right-length (w .join .of));
             above = w .join .above;
             within = join-flagged (w .join) .within;
           }
 
       pub asked-right-side : SideAsked ns t (x .right) q p v
       asked-right-side =
-          let f = side-fits (x .left) (join-left (w .join .of)) in
           record {
             rows = w .rows;
             of = join-right (w .join .of);
             own = b ∙ sym (right-length (w .join .of));
-            other = omega (arith, f .inside, f .few, left-length (w .join .of));
+            other = omega (arith, left-few (w .join .of), left-length (w .join .of));
             above = w .join .above;
             within = join-flagged (w .join) .within;
           }
 
   pub asked-below : {ns : List ℕ} {s : Side} {p q v : ℕ} → SideAsked ns t s p q v → (i : ℕ) → 1 ≤ i → i ≤ p → RequestIn ns t (s .node) (s .offset + i)
   asked-below {s = s} w i a b =
-      let f = side-fits s (w .of) in
-      record { rows = w .rows; there = f .there; above = omega arith; within = omega (arith, f .inside, w .own) }
+      let f = side-inside y s (w .of) in
+      record { rows = w .rows; there = f .0; above = omega arith; within = omega (arith, f .1, w .own) }

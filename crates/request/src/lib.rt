@@ -4,13 +4,12 @@ use define::Out;
 use totdb::Side;
 ghost use mathlib.Core.Path.{_≡_};
 ghost use mathlib.Core.Bool.{true, false};
-ghost use mathlib.Core.List.{List};
-ghost use Prim.Native.Nat.{ℕ, _+_, _-_, _≤_, _<_, min};
+ghost use Prim.Native.Nat.{_+_, _-_, _≤_, _<_, min};
 ghost use lib.ListN.{length, getD};
 ghost use Rattle.memo.specs.Visit.{each};
-ghost use Rattle.cert.specs.Requests.{request, needs, below, clausesOf, named};
-ghost use Rattle.cert.specs.State.{requests, serve, writeClause, writeRequest};
-ghost use Rattle.define.specs.Tables.{memory, Shown, Does, Sizes, direction, place};
+ghost use Rattle.cert.specs.Requests.{request, needs, below, named};
+ghost use Rattle.cert.specs.State.{requests, serve, writeRequest};
+ghost use Rattle.define.specs.Tables.{memory, Shown, Does, direction, place};
 ghost use Rattle.clauses.specs.Joins.{JoinIn};
 ghost use Rattle.request.specs.Rows.{sideIn, joinIn, JoinRow, askFor, askBoth, writeBoth, RequestIn, JoinAsked, SideAsked, OneByOne, AtOnce, Tables};
 
@@ -106,7 +105,8 @@ fn write_request(
     s
 }
 
-pub fn node_request(
+// A request that is not held: what it needs, the left side and then the right, and then its clauses.
+fn node_request(
     nodes: &[u32],
     leaves: &[u32],
     outputs: &[u32],
@@ -139,54 +139,6 @@ pub fn node_request(
         return o;
     }
     let x = join_at(nodes, node);
-    let a = join_request(
-        nodes,
-        leaves,
-        outputs,
-        held,
-        firsts,
-        steps,
-        log,
-        o,
-        x,
-        value,
-        only_if,
-    );
-    write_request(
-        leaves,
-        outputs,
-        held,
-        firsts,
-        steps,
-        log,
-        a,
-        x,
-        value,
-        only_if,
-    )
-}
-
-// What a request needs: the left side, then the right.
-fn join_request(
-    nodes: &[u32],
-    leaves: &[u32],
-    outputs: &[u32],
-    held: &mut [u8],
-    firsts: &mut [u32],
-    steps: &mut [u32],
-    log: &mut [u8],
-    o: Out,
-    x: Join,
-    value: usize,
-    only_if: bool,
-) -> Out
-    requires { ⌜ Tables (now held) (now firsts) (now steps) ⌝ }
-    requires { ⌜ Shown (now leaves) (now outputs) (λ t. JoinAsked (now nodes) t x value) ⌝ }
-    ensures { λ r. ⌜ Does (now (leaves .entry)) (now (outputs .entry)) (λ t. JoinAsked (now (nodes .entry)) t x value)
-        (λ t s. each (askFor t) (needs t (request (x .node) value (direction «only_if»))) s)
-        (memory (now (held .entry)) (now (firsts .entry)) (now (steps .entry)) (now (log .entry)) o)
-        (memory (now (held .exit)) (now (firsts .exit)) (now (steps .exit)) (now (log .exit)) r) ⌝ }
-{
     let l = x.left;
     let r = x.right;
     let p = l.len(x.left_len);
@@ -206,7 +158,7 @@ fn join_request(
         value,
         only_if,
     );
-    side_request(
+    let b = side_request(
         nodes,
         leaves,
         outputs,
@@ -220,10 +172,23 @@ fn join_request(
         p,
         value,
         only_if,
+    );
+    write_request(
+        leaves,
+        outputs,
+        held,
+        firsts,
+        steps,
+        log,
+        b,
+        x,
+        value,
+        only_if,
     )
 }
 
-pub fn side_request(
+// The literals that a value names on a side, one request each.
+fn side_request(
     nodes: &[u32],
     leaves: &[u32],
     outputs: &[u32],
@@ -266,6 +231,63 @@ pub fn side_request(
     s
 }
 
+// What a request of a join needs, and not its clauses.
+fn serve_needs(
+    nodes: &[u32],
+    leaves: &[u32],
+    outputs: &[u32],
+    held: &mut [u8],
+    firsts: &mut [u32],
+    steps: &mut [u32],
+    log: &mut [u8],
+    o: Out,
+    x: Join,
+    value: usize,
+    only_if: bool,
+) -> Out
+    requires { ⌜ Tables (now held) (now firsts) (now steps) ⌝ }
+    requires { ⌜ Shown (now leaves) (now outputs) (λ t. JoinAsked (now nodes) t x value) ⌝ }
+    ensures { λ r. ⌜ Does (now (leaves .entry)) (now (outputs .entry)) (λ t. JoinAsked (now (nodes .entry)) t x value)
+        (λ t s. each (askFor t) (needs t (request (x .node) value (direction «only_if»))) s)
+        (memory (now (held .entry)) (now (firsts .entry)) (now (steps .entry)) (now (log .entry)) o)
+        (memory (now (held .exit)) (now (firsts .exit)) (now (steps .exit)) (now (log .exit)) r) ⌝ }
+{
+    let left = x.left;
+    let right = x.right;
+    let p = left.len(x.left_len);
+    let q = right.len(x.right_len);
+    let a = side_request(
+        nodes,
+        leaves,
+        outputs,
+        held,
+        firsts,
+        steps,
+        log,
+        o,
+        left,
+        p,
+        q,
+        value,
+        only_if,
+    );
+    side_request(
+        nodes,
+        leaves,
+        outputs,
+        held,
+        firsts,
+        steps,
+        log,
+        a,
+        right,
+        q,
+        p,
+        value,
+        only_if,
+    )
+}
+
 // Both directions of a join, neither of them held: what both need comes first.
 fn both(
     nodes: &[u32],
@@ -286,7 +308,7 @@ fn both(
         (memory (now (held .entry)) (now (firsts .entry)) (now (steps .entry)) (now (log .entry)) o)
         (memory (now (held .exit)) (now (firsts .exit)) (now (steps .exit)) (now (log .exit)) r) ⌝ }
 {
-    let a = join_request(
+    let a = serve_needs(
         nodes,
         leaves,
         outputs,
@@ -299,7 +321,7 @@ fn both(
         value,
         false,
     );
-    let b = join_request(
+    let b = serve_needs(
         nodes,
         leaves,
         outputs,

@@ -1,10 +1,11 @@
 -- `request::request` meets its contract, by the direction, and for both by what is held and by the kind of the node.
 use borrow.Author.Needs.{needs}
 use mathlib.Core.Path.{refl}
-use Rattle.request.proofs.Does.{does-full, shown-to}
+use Rattle.define.proofs.Does.{does-full, shown-to}
+use Rattle.define.proofs.Slots.{node-short}
 use Rattle.request.proofs.Grow.{serve-grows}
 use Rattle.request.proofs.Steps.{one-done, three-done, single-done, once-done}
-use Rattle.request.proofs.Table.{node-few, asked-flagged, asked-row, asked-join}
+use Rattle.request.proofs.Table.{asked-flagged, asked-row, asked-join}
 use Rattle.request.proofs.request.Statement.{statement}
 use Rattle.request.proofs.request.Tie as tie
 
@@ -31,14 +32,14 @@ returns c =
 
 returns-2 : tie.Need-returns-2
 returns-2 c =
-    does-full (λ n m u x h. serve-grows n m u _ x h) (c .if2 .taken)
+    does-full (serve-grows _) (c .if2 .taken)
 
 one-by-one-requires : tie.Need-one-by-one-requires
 one-by-one-requires c κs =
     let s = c .before .before .before .before .before .before .before .before .before .before .before in
     let w = s .pre .1 .0 in
     let z = asked-flagged (w .lists) (w .holds) in
-    (w .holds .rows .size, s .pre .0 .held-size, node-few (w .lists) (z .there), z .above, z .within)
+    (w .holds .rows .size, s .pre .0 .held-size, node-short (w .lists) _ (z .there) .0, z .above, z .within)
 
 each-direction-requires : tie.Need-each-direction-requires
 each-direction-requires c κs = search needs

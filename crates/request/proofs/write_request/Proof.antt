@@ -1,8 +1,9 @@
 -- `request::write_request` meets its contract: the clauses, then the flag.
 use borrow.Author.Needs.{needs}
 use Rattle.define.specs.Tables.{direction}
+use Rattle.define.proofs.Slots.{node-short}
 use Rattle.request.proofs.Steps.{write-done}
-use Rattle.request.proofs.Table.{node-few, join-flagged}
+use Rattle.request.proofs.Table.{join-flagged}
 use Rattle.request.proofs.write_request.Statement.{statement}
 use Rattle.request.proofs.write_request.Tie as tie
 
@@ -13,7 +14,7 @@ place-requires : tie.Need-place-requires
 place-requires c κs =
     let w = c .before .before .before .before .before .before .before .before .before .before .before .before .before .before .before .before .pre .1 in
     let z = join-flagged (w .lists) (w .holds) in
-    (node-few (w .lists) (z .there), z .above, z .within)
+    (node-short (w .lists) _ (z .there) .0, z .above, z .within)
 
 slice-write-held : tie.Need-slice-write-held
 slice-write-held c = search needs

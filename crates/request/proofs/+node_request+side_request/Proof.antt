@@ -1,29 +1,26 @@
--- The proof of the cycle of calls {join_request, node_request, side_request}.
--- The measures at node n: 3n + 1 of a join's needs, 3n + 2 of a request, 3n + 3 of a side.
+-- The proof of the cycle of calls {node_request, side_request}.
+-- The measures at node n: 2n of a request, 2n + 1 of a side.
 -- The loop's invariant: the literals below i are asked for.
 use native.Mathlib.Omega.{arith}
 use borrow.Author.Needs.{needs}
-use mathlib.Core.Path.{_≡_, refl, sym, ap, _∙_}
+use mathlib.Core.Path.{_≡_, refl, sym, _∙_}
 use Prim.Native.Nat.{ℕ, _+_, _-_, _*_, _≤_, _<_}
 use lib.ListN.{length, length-set}
-use Rattle.clauses.specs.declared.Join.{Join}
 use Rattle.define.specs.Tables.{memory, direction}
+use Rattle.define.proofs.Does.{does-full, shown-to}
+use Rattle.define.proofs.Slots.{side-inside, node-short}
 use Rattle.request.specs.Rows.{Tables}
-use Rattle.request.proofs.Does.{does-full, shown-to}
 use Rattle.request.proofs.Grow.{ask-grows}
 use Rattle.request.proofs.Steps.{tables-kept, node-held, node-leaf, node-join, join-done, Lower, side-none, side-more, side-done}
-use Rattle.request.proofs.Table.{side-fits, left-below, right-below, node-few, asked-flagged, asked-row, asked-join, asked-left, asked-right-side, asked-below}
+use Rattle.request.proofs.Table.{asked-flagged, asked-row, asked-join, asked-low, asked-left, asked-right-side, asked-below}
 use borrow.Fn.Kinds.{In}
 use borrow.Fn.PlainCycle.{Measures, is, falls, and}
-use Rattle.request.proofs.join_request.Reads as join-request
-use Rattle.request.proofs.join_request.Kinds as join-request-kinds
-use Rattle.request.proofs.+join_request+node_request+side_request.Lts-join_request as join-request-lts
 use Rattle.request.proofs.node_request.Reads as node-request
 use Rattle.request.proofs.node_request.Kinds as node-request-kinds
-use Rattle.request.proofs.+join_request+node_request+side_request.Lts-node_request as node-request-lts
+use Rattle.request.proofs.+node_request+side_request.Lts-node_request as node-request-lts
 use Rattle.request.proofs.side_request.Reads as side-request
 use Rattle.request.proofs.side_request.Kinds as side-request-kinds
-use Rattle.request.proofs.+join_request+node_request+side_request.Lts-side_request as side-request-lts
+use Rattle.request.proofs.+node_request+side_request.Lts-side_request as side-request-lts
 use Rattle.request.proofs.highest.Reads as highest-reads
 use Rattle.request.proofs.join_at.Reads as join-at-reads
 use Rattle.request.proofs.lowest.Reads as lowest-reads
@@ -31,32 +28,16 @@ use Rattle.request.proofs.number_at.Reads as number-at-reads
 use Rattle.request.proofs.place.Reads as place-reads
 use Rattle.request.proofs.write_request.Reads as write-request-reads
 use Rattle.totdb.proofs.Side.len.Reads as len-reads
-use Rattle.request.proofs.+join_request+node_request+side_request.{statement}
-use Rattle.request.proofs.+join_request+node_request+side_request.Tie.{close}
-
-abbrev μ-join-request : Measures 7 join-request-kinds.ps ℕ
-μ-join-request κs a =
-    3 * a .1 .1 .1 .1 .1 .1 .1 .1 .0 .node + 1
+use Rattle.request.proofs.+node_request+side_request.{statement}
+use Rattle.request.proofs.+node_request+side_request.Tie.{close}
 
 abbrev μ-node-request : Measures 7 node-request-kinds.ps ℕ
 μ-node-request κs a =
-    3 * a .1 .1 .1 .1 .1 .1 .1 .1 .0 + 2
+    2 * a .1 .1 .1 .1 .1 .1 .1 .1 .0
 
 abbrev μ-side-request : Measures 7 side-request-kinds.ps ℕ
 μ-side-request κs a =
-    3 * a .1 .1 .1 .1 .1 .1 .1 .1 .0 .node + 3
-
-abbrev join-request-at : ℕ → In 7 join-request-kinds.ps
-join-request-at t =
-    and 7 join-request-kinds.ps (is 7 join-request-kinds.ps μ-join-request t) join-request.Pre
-
-abbrev join-request-below : ℕ → In 7 join-request-kinds.ps
-join-request-below t =
-    and
-    7
-    join-request-kinds.ps
-    (falls 7 join-request-kinds.ps _<_ μ-join-request t)
-    join-request.Pre
+    2 * a .1 .1 .1 .1 .1 .1 .1 .1 .0 .node + 1
 
 abbrev node-request-at : ℕ → In 7 node-request-kinds.ps
 node-request-at t =
@@ -82,103 +63,6 @@ side-request-below t =
     (falls 7 side-request-kinds.ps _<_ μ-side-request t)
     side-request.Pre
 
-join-request-len-requires : (t : ℕ) → join-request-lts.Need-len-requires (
-  len-reads.Asked,
-  len-reads.Learnt,
-  side-request-below t,
-  side-request.Post,
-) (join-request-at t) join-request.Post
-join-request-len-requires t c κs =
-    tt
-
-join-request-len-requires-2 : (t : ℕ) → join-request-lts.Need-len-requires-2 (
-  len-reads.Asked,
-  len-reads.Learnt,
-  side-request-below t,
-  side-request.Post,
-) (join-request-at t) join-request.Post
-join-request-len-requires-2 t c κs =
-    tt
-
-join-request-side-request-requires : (t : ℕ) → join-request-lts.Need-side-request-requires (
-  len-reads.Asked,
-  len-reads.Learnt,
-  side-request-below t,
-  side-request.Post,
-) (join-request-at t) join-request.Post
-join-request-side-request-requires t c κs =
-    let s = c .before .before .before .before .before .before .before .before .before .before .before .before .before .before .before in
-    let w = s .pre .1 .1 in (
-      omega (arith, left-below (w .lists) (w .holds .join .of), s .pre .0),
-      (s .pre .1 .0, shown-to (λ u y j. asked-left y j _ _ (c .before .before .before .before .before .len .ensures) (c .before .before .before .before .len2 .ensures)) w),
-    )
-
-join-request-side-request-requires-2 : (t : ℕ) → join-request-lts.Need-side-request-requires-2 (
-  len-reads.Asked,
-  len-reads.Learnt,
-  side-request-below t,
-  side-request.Post,
-) (join-request-at t) join-request.Post
-join-request-side-request-requires-2 t c κs =
-    let k = c .before .before .before .before .before .before .before .before .before .before .before .before .side-request in
-    let l = c .before .before .before .before .before .before .before .before .before .before .before .before .before .before .before .before .before in
-    let s = l .before .before .before .before .before .before .before .before .before .before .before in
-    let w = s .pre .1 .1 in (
-      omega (arith, right-below (w .lists) (w .holds .join .of), s .pre .0),
-      (
-        tables-kept _ _ _ (s .pre .1 .0) (k .kept .1 .1 .1 .0) (k .kept .1 .1 .1 .1 .0) (k .kept .1 .1 .1 .1 .1 .0),
-        shown-to (λ u y j. asked-right-side y j _ _ (l .before .len .ensures) (l .len2 .ensures)) w,
-      ),
-    )
-
-join-request-same-length : (t : ℕ) → join-request-lts.Need-same-length (
-  len-reads.Asked,
-  len-reads.Learnt,
-  side-request-below t,
-  side-request.Post,
-) (join-request-at t) join-request.Post
-join-request-same-length t c =
-    c .before .before .before .before .before .before .before .before .side-request2 .kept .1 .1 .1 .0 ∙ c .before .before .before .before .before .before .before .before .before .before .before .before .before .before .before .before .before .before .before .before .before .side-request .kept .1 .1 .1 .0
-
-join-request-same-length-2 : (t : ℕ) → join-request-lts.Need-same-length-2 (
-  len-reads.Asked,
-  len-reads.Learnt,
-  side-request-below t,
-  side-request.Post,
-) (join-request-at t) join-request.Post
-join-request-same-length-2 t c =
-    c .before .before .before .before .before .before .before .before .side-request2 .kept .1 .1 .1 .1 .0 ∙ c .before .before .before .before .before .before .before .before .before .before .before .before .before .before .before .before .before .before .before .before .before .side-request .kept .1 .1 .1 .1 .0
-
-join-request-same-length-3 : (t : ℕ) → join-request-lts.Need-same-length-3 (
-  len-reads.Asked,
-  len-reads.Learnt,
-  side-request-below t,
-  side-request.Post,
-) (join-request-at t) join-request.Post
-join-request-same-length-3 t c =
-    c .before .before .before .before .before .before .before .before .side-request2 .kept .1 .1 .1 .1 .1 .0 ∙ c .before .before .before .before .before .before .before .before .before .before .before .before .before .before .before .before .before .before .before .before .before .side-request .kept .1 .1 .1 .1 .1 .0
-
-join-request-same-length-4 : (t : ℕ) → join-request-lts.Need-same-length-4 (
-  len-reads.Asked,
-  len-reads.Learnt,
-  side-request-below t,
-  side-request.Post,
-) (join-request-at t) join-request.Post
-join-request-same-length-4 t c =
-    c .before .before .before .before .before .before .before .before .side-request2 .kept .1 .1 .1 .1 .1 .1 .0 ∙ c .before .before .before .before .before .before .before .before .before .before .before .before .before .before .before .before .before .before .before .before .before .side-request .kept .1 .1 .1 .1 .1 .1 .0
-
-join-request-returns : (t : ℕ) → join-request-lts.Need-returns (
-  len-reads.Asked,
-  len-reads.Learnt,
-  side-request-below t,
-  side-request.Post,
-) (join-request-at t) join-request.Post
-join-request-returns t c =
-    let second = c .before .before .before .before .before .before .before .before in
-    let first = second .before .before .before .before .before .before .before .before .before .before .before .before .before in
-    let l = first .before .before .before .before .before in
-    join-done (direction _) _ _ (l .before .len .ensures) (l .len2 .ensures) (first .side-request .ensures) (second .side-request2 .ensures)
-
 node-request-returns : (t : ℕ) → node-request-lts.Need-returns (
   place-reads.Asked,
   place-reads.Learnt,
@@ -186,13 +70,15 @@ node-request-returns : (t : ℕ) → node-request-lts.Need-returns (
   number-at-reads.Learnt,
   join-at-reads.Asked,
   join-at-reads.Learnt,
-  join-request-below t,
-  join-request.Post,
+  len-reads.Asked,
+  len-reads.Learnt,
+  side-request-below t,
+  side-request.Post,
   write-request-reads.Asked,
   write-request-reads.Learnt,
 ) (node-request-at t) node-request.Post
 node-request-returns t c =
-    does-full (λ n m u x h. ask-grows n m u _ x h) (c .if1 .taken)
+    does-full (ask-grows _) (c .if1 .taken)
 
 node-request-place-requires : (t : ℕ) → node-request-lts.Need-place-requires (
   place-reads.Asked,
@@ -201,15 +87,17 @@ node-request-place-requires : (t : ℕ) → node-request-lts.Need-place-requires
   number-at-reads.Learnt,
   join-at-reads.Asked,
   join-at-reads.Learnt,
-  join-request-below t,
-  join-request.Post,
+  len-reads.Asked,
+  len-reads.Learnt,
+  side-request-below t,
+  side-request.Post,
   write-request-reads.Asked,
   write-request-reads.Learnt,
 ) (node-request-at t) node-request.Post
 node-request-place-requires t c κs =
     let w = c .before .before .before .before .before .before .before .before .before .pre .1 .1 in
     let z = asked-flagged (w .lists) (w .holds) in
-    (node-few (w .lists) (z .there), z .above, z .within)
+    (node-short (w .lists) _ (z .there) .0, z .above, z .within)
 
 node-request-slice-read-if2 : (t : ℕ) → node-request-lts.Need-slice-read-if2 (
   place-reads.Asked,
@@ -218,8 +106,10 @@ node-request-slice-read-if2 : (t : ℕ) → node-request-lts.Need-slice-read-if2
   number-at-reads.Learnt,
   join-at-reads.Asked,
   join-at-reads.Learnt,
-  join-request-below t,
-  join-request.Post,
+  len-reads.Asked,
+  len-reads.Learnt,
+  side-request-below t,
+  side-request.Post,
   write-request-reads.Asked,
   write-request-reads.Learnt,
 ) (node-request-at t) node-request.Post
@@ -233,8 +123,10 @@ node-request-returns-2 : (t : ℕ) → node-request-lts.Need-returns-2 (
   number-at-reads.Learnt,
   join-at-reads.Asked,
   join-at-reads.Learnt,
-  join-request-below t,
-  join-request.Post,
+  len-reads.Asked,
+  len-reads.Learnt,
+  side-request-below t,
+  side-request.Post,
   write-request-reads.Asked,
   write-request-reads.Learnt,
 ) (node-request-at t) node-request.Post
@@ -249,14 +141,16 @@ node-request-mul-number-at : (t : ℕ) → node-request-lts.Need-mul-number-at (
   number-at-reads.Learnt,
   join-at-reads.Asked,
   join-at-reads.Learnt,
-  join-request-below t,
-  join-request.Post,
+  len-reads.Asked,
+  len-reads.Learnt,
+  side-request-below t,
+  side-request.Post,
   write-request-reads.Asked,
   write-request-reads.Learnt,
 ) (node-request-at t) node-request.Post
 node-request-mul-number-at t c =
     let w = c .before .before .before .before .before .before .before .before .before .before .before .before .pre .1 .1 in
-    omega (arith, node-few (w .lists) (w .holds .there))
+    omega (arith, node-short (w .lists) _ (w .holds .there))
 
 node-request-add-number-at : (t : ℕ) → node-request-lts.Need-add-number-at (
   place-reads.Asked,
@@ -265,14 +159,16 @@ node-request-add-number-at : (t : ℕ) → node-request-lts.Need-add-number-at (
   number-at-reads.Learnt,
   join-at-reads.Asked,
   join-at-reads.Learnt,
-  join-request-below t,
-  join-request.Post,
+  len-reads.Asked,
+  len-reads.Learnt,
+  side-request-below t,
+  side-request.Post,
   write-request-reads.Asked,
   write-request-reads.Learnt,
 ) (node-request-at t) node-request.Post
 node-request-add-number-at t c =
     let w = c .before .before .before .before .before .before .before .before .before .before .before .before .pre .1 .1 in
-    omega (arith, node-few (w .lists) (w .holds .there))
+    omega (arith, node-short (w .lists) _ (w .holds .there))
 
 node-request-number-at-requires : (t : ℕ) → node-request-lts.Need-number-at-requires (
   place-reads.Asked,
@@ -281,14 +177,16 @@ node-request-number-at-requires : (t : ℕ) → node-request-lts.Need-number-at-
   number-at-reads.Learnt,
   join-at-reads.Asked,
   join-at-reads.Learnt,
-  join-request-below t,
-  join-request.Post,
+  len-reads.Asked,
+  len-reads.Learnt,
+  side-request-below t,
+  side-request.Post,
   write-request-reads.Asked,
   write-request-reads.Learnt,
 ) (node-request-at t) node-request.Post
 node-request-number-at-requires t c κs =
     let w = c .before .before .before .before .before .before .before .before .before .before .before .before .pre .1 .1 in
-    omega (arith, node-few (w .lists) (w .holds .there), w .holds .rows .size)
+    omega (arith, node-short (w .lists) _ (w .holds .there), w .holds .rows .size)
 
 node-request-slice-write-held : (t : ℕ) → node-request-lts.Need-slice-write-held (
   place-reads.Asked,
@@ -297,8 +195,10 @@ node-request-slice-write-held : (t : ℕ) → node-request-lts.Need-slice-write-
   number-at-reads.Learnt,
   join-at-reads.Asked,
   join-at-reads.Learnt,
-  join-request-below t,
-  join-request.Post,
+  len-reads.Asked,
+  len-reads.Learnt,
+  side-request-below t,
+  side-request.Post,
   write-request-reads.Asked,
   write-request-reads.Learnt,
 ) (node-request-at t) node-request.Post
@@ -312,8 +212,10 @@ node-request-same-length : (t : ℕ) → node-request-lts.Need-same-length (
   number-at-reads.Learnt,
   join-at-reads.Asked,
   join-at-reads.Learnt,
-  join-request-below t,
-  join-request.Post,
+  len-reads.Asked,
+  len-reads.Learnt,
+  side-request-below t,
+  side-request.Post,
   write-request-reads.Asked,
   write-request-reads.Learnt,
 ) (node-request-at t) node-request.Post
@@ -327,8 +229,10 @@ node-request-returns-3 : (t : ℕ) → node-request-lts.Need-returns-3 (
   number-at-reads.Learnt,
   join-at-reads.Asked,
   join-at-reads.Learnt,
-  join-request-below t,
-  join-request.Post,
+  len-reads.Asked,
+  len-reads.Learnt,
+  side-request-below t,
+  side-request.Post,
   write-request-reads.Asked,
   write-request-reads.Learnt,
 ) (node-request-at t) node-request.Post
@@ -343,8 +247,10 @@ node-request-join-at-requires : (t : ℕ) → node-request-lts.Need-join-at-requ
   number-at-reads.Learnt,
   join-at-reads.Asked,
   join-at-reads.Learnt,
-  join-request-below t,
-  join-request.Post,
+  len-reads.Asked,
+  len-reads.Learnt,
+  side-request-below t,
+  side-request.Post,
   write-request-reads.Asked,
   write-request-reads.Learnt,
 ) (node-request-at t) node-request.Post
@@ -352,24 +258,93 @@ node-request-join-at-requires t c κs =
     let w = c .before .before .before .before .before .before .before .before .before .before .before .before .before .before .pre .1 .1 in
     asked-row (w .lists) (w .holds) (λ e. c .if3 .left (c .before .number-at .ensures ∙ e))
 
-node-request-join-request-requires : (t : ℕ) → node-request-lts.Need-join-request-requires (
+node-request-len-requires : (t : ℕ) → node-request-lts.Need-len-requires (
   place-reads.Asked,
   place-reads.Learnt,
   number-at-reads.Asked,
   number-at-reads.Learnt,
   join-at-reads.Asked,
   join-at-reads.Learnt,
-  join-request-below t,
-  join-request.Post,
+  len-reads.Asked,
+  len-reads.Learnt,
+  side-request-below t,
+  side-request.Post,
   write-request-reads.Asked,
   write-request-reads.Learnt,
 ) (node-request-at t) node-request.Post
-node-request-join-request-requires t c κs =
-    let j = c .before .before .before .before in
+node-request-len-requires t c κs =
+    tt
+
+node-request-len-requires-2 : (t : ℕ) → node-request-lts.Need-len-requires-2 (
+  place-reads.Asked,
+  place-reads.Learnt,
+  number-at-reads.Asked,
+  number-at-reads.Learnt,
+  join-at-reads.Asked,
+  join-at-reads.Learnt,
+  len-reads.Asked,
+  len-reads.Learnt,
+  side-request-below t,
+  side-request.Post,
+  write-request-reads.Asked,
+  write-request-reads.Learnt,
+) (node-request-at t) node-request.Post
+node-request-len-requires-2 t c κs =
+    tt
+
+node-request-side-request-requires : (t : ℕ) → node-request-lts.Need-side-request-requires (
+  place-reads.Asked,
+  place-reads.Learnt,
+  number-at-reads.Asked,
+  number-at-reads.Learnt,
+  join-at-reads.Asked,
+  join-at-reads.Learnt,
+  len-reads.Asked,
+  len-reads.Learnt,
+  side-request-below t,
+  side-request.Post,
+  write-request-reads.Asked,
+  write-request-reads.Learnt,
+) (node-request-at t) node-request.Post
+node-request-side-request-requires t c κs =
+    let l = c .before .before .before .before in
+    let j = l .before .before .before .before in
     let k = j .before .before in
-    let s = k .before .before .before .before .before .before .before .before .before .before .before .before .before in (
-      omega (arith, ap (λ (x : Join). x .node) (j .join-at .ensures), s .pre .0),
-      (s .pre .1 .0, shown-to (λ u y w. asked-join y w _ (j .join-at .ensures) (λ e. j .before .if3 .left (k .number-at .ensures ∙ e))) (s .pre .1 .1)),
+    let s = k .before .before .before .before .before .before .before .before .before .before .before .before .before in
+    let w = s .pre .1 .1 in (
+      omega (arith, asked-low (w .lists) (w .holds) _ (j .join-at .ensures) (λ e. j .before .if3 .left (k .number-at .ensures ∙ e)), s .pre .0),
+      (
+        s .pre .1 .0,
+        shown-to (λ u y i. asked-left y (asked-join y i _ (j .join-at .ensures) (λ e. j .before .if3 .left (k .number-at .ensures ∙ e))) _ _ (l .before .len .ensures) (l .len2 .ensures)) w,
+      ),
+    )
+
+node-request-side-request-requires-2 : (t : ℕ) → node-request-lts.Need-side-request-requires-2 (
+  place-reads.Asked,
+  place-reads.Learnt,
+  number-at-reads.Asked,
+  number-at-reads.Learnt,
+  join-at-reads.Asked,
+  join-at-reads.Learnt,
+  len-reads.Asked,
+  len-reads.Learnt,
+  side-request-below t,
+  side-request.Post,
+  write-request-reads.Asked,
+  write-request-reads.Learnt,
+) (node-request-at t) node-request.Post
+node-request-side-request-requires-2 t c κs =
+    let a = c .before .before .before .before .before .before .before .before .before .before .before .before .side-request in
+    let l = c .before .before .before .before .before .before .before .before .before .before .before .before .before .before .before .before .before in
+    let j = l .before .before .before .before in
+    let k = j .before .before in
+    let s = k .before .before .before .before .before .before .before .before .before .before .before .before .before in
+    let w = s .pre .1 .1 in (
+      omega (arith, asked-low (w .lists) (w .holds) _ (j .join-at .ensures) (λ e. j .before .if3 .left (k .number-at .ensures ∙ e)), s .pre .0),
+      (
+        tables-kept _ _ _ (s .pre .1 .0) (a .kept .1 .1 .1 .0) (a .kept .1 .1 .1 .1 .0) (a .kept .1 .1 .1 .1 .1 .0),
+        shown-to (λ u y i. asked-right-side y (asked-join y i _ (j .join-at .ensures) (λ e. j .before .if3 .left (k .number-at .ensures ∙ e))) _ _ (l .before .len .ensures) (l .len2 .ensures)) w,
+      ),
     )
 
 node-request-write-request-requires : (t : ℕ) → node-request-lts.Need-write-request-requires (
@@ -379,18 +354,24 @@ node-request-write-request-requires : (t : ℕ) → node-request-lts.Need-write-
   number-at-reads.Learnt,
   join-at-reads.Asked,
   join-at-reads.Learnt,
-  join-request-below t,
-  join-request.Post,
+  len-reads.Asked,
+  len-reads.Learnt,
+  side-request-below t,
+  side-request.Post,
   write-request-reads.Asked,
   write-request-reads.Learnt,
 ) (node-request-at t) node-request.Post
 node-request-write-request-requires t c κs =
-    let a = c .before .before .before .before .before .before .before .before .before .before .before .before .join-request in
-    let j = c .before .before .before .before .before .before .before .before .before .before .before .before .before .before .before .before .before in
+    let second = c .before .before .before .before .before .before .before .before .before .before .before .before in
+    let b = second .side-request2 in
+    let first = second .before .before .before .before .before .before .before .before .before .before .before .before .before in
+    let a = first .side-request in
+    let j = first .before .before .before .before .before .before .before .before .before in
     let k = j .before .before in
     let s = k .before .before .before .before .before .before .before .before .before .before .before .before .before in (
-      tables-kept _ _ _ (s .pre .1 .0) (a .kept .1 .1 .1 .0) (a .kept .1 .1 .1 .1 .0) (a .kept .1 .1 .1 .1 .1 .0),
-      shown-to (λ u y w. asked-join y w _ (j .join-at .ensures) (λ e. j .before .if3 .left (k .number-at .ensures ∙ e)) .join) (s .pre .1 .1),
+      tables-kept _ _ _ (s .pre .1 .0) (b .kept .1 .1 .1 .0 ∙ a .kept .1 .1 .1 .0) (b .kept .1 .1 .1 .1 .0 ∙ a .kept .1 .1 .1 .1 .0)
+          (b .kept .1 .1 .1 .1 .1 .0 ∙ a .kept .1 .1 .1 .1 .1 .0),
+      shown-to (λ u y i. asked-join y i _ (j .join-at .ensures) (λ e. j .before .if3 .left (k .number-at .ensures ∙ e)) .join) (s .pre .1 .1),
     )
 
 node-request-same-length-2 : (t : ℕ) → node-request-lts.Need-same-length-2 (
@@ -400,13 +381,16 @@ node-request-same-length-2 : (t : ℕ) → node-request-lts.Need-same-length-2 (
   number-at-reads.Learnt,
   join-at-reads.Asked,
   join-at-reads.Learnt,
-  join-request-below t,
-  join-request.Post,
+  len-reads.Asked,
+  len-reads.Learnt,
+  side-request-below t,
+  side-request.Post,
   write-request-reads.Asked,
   write-request-reads.Learnt,
 ) (node-request-at t) node-request.Post
 node-request-same-length-2 t c =
-    c .before .before .before .before .before .before .before .before .write-request .kept .1 .1 .0 ∙ c .before .before .before .before .before .before .before .before .before .before .before .before .before .before .before .before .before .before .before .before .before .join-request .kept .1 .1 .1 .0
+    let second = c .before .before .before .before .before .before .before .before .before .before .before .before .before .before .before .before .before .before .before .before .before in
+    c .before .before .before .before .before .before .before .before .write-request .kept .1 .1 .0 ∙ second .side-request2 .kept .1 .1 .1 .0 ∙ second .before .before .before .before .before .before .before .before .before .before .before .before .before .side-request .kept .1 .1 .1 .0
 
 node-request-same-length-3 : (t : ℕ) → node-request-lts.Need-same-length-3 (
   place-reads.Asked,
@@ -415,13 +399,16 @@ node-request-same-length-3 : (t : ℕ) → node-request-lts.Need-same-length-3 (
   number-at-reads.Learnt,
   join-at-reads.Asked,
   join-at-reads.Learnt,
-  join-request-below t,
-  join-request.Post,
+  len-reads.Asked,
+  len-reads.Learnt,
+  side-request-below t,
+  side-request.Post,
   write-request-reads.Asked,
   write-request-reads.Learnt,
 ) (node-request-at t) node-request.Post
 node-request-same-length-3 t c =
-    c .before .before .before .before .before .before .before .before .write-request .kept .1 .1 .1 .0 ∙ c .before .before .before .before .before .before .before .before .before .before .before .before .before .before .before .before .before .before .before .before .before .join-request .kept .1 .1 .1 .1 .0
+    let second = c .before .before .before .before .before .before .before .before .before .before .before .before .before .before .before .before .before .before .before .before .before in
+    c .before .before .before .before .before .before .before .before .write-request .kept .1 .1 .1 .0 ∙ second .side-request2 .kept .1 .1 .1 .1 .0 ∙ second .before .before .before .before .before .before .before .before .before .before .before .before .before .side-request .kept .1 .1 .1 .1 .0
 
 node-request-same-length-4 : (t : ℕ) → node-request-lts.Need-same-length-4 (
   place-reads.Asked,
@@ -430,13 +417,16 @@ node-request-same-length-4 : (t : ℕ) → node-request-lts.Need-same-length-4 (
   number-at-reads.Learnt,
   join-at-reads.Asked,
   join-at-reads.Learnt,
-  join-request-below t,
-  join-request.Post,
+  len-reads.Asked,
+  len-reads.Learnt,
+  side-request-below t,
+  side-request.Post,
   write-request-reads.Asked,
   write-request-reads.Learnt,
 ) (node-request-at t) node-request.Post
 node-request-same-length-4 t c =
-    c .before .before .before .before .before .before .before .before .write-request .kept .1 .1 .1 .1 .0 ∙ c .before .before .before .before .before .before .before .before .before .before .before .before .before .before .before .before .before .before .before .before .before .join-request .kept .1 .1 .1 .1 .1 .0
+    let second = c .before .before .before .before .before .before .before .before .before .before .before .before .before .before .before .before .before .before .before .before .before in
+    c .before .before .before .before .before .before .before .before .write-request .kept .1 .1 .1 .1 .0 ∙ second .side-request2 .kept .1 .1 .1 .1 .1 .0 ∙ second .before .before .before .before .before .before .before .before .before .before .before .before .before .side-request .kept .1 .1 .1 .1 .1 .0
 
 node-request-same-length-5 : (t : ℕ) → node-request-lts.Need-same-length-5 (
   place-reads.Asked,
@@ -445,13 +435,16 @@ node-request-same-length-5 : (t : ℕ) → node-request-lts.Need-same-length-5 (
   number-at-reads.Learnt,
   join-at-reads.Asked,
   join-at-reads.Learnt,
-  join-request-below t,
-  join-request.Post,
+  len-reads.Asked,
+  len-reads.Learnt,
+  side-request-below t,
+  side-request.Post,
   write-request-reads.Asked,
   write-request-reads.Learnt,
 ) (node-request-at t) node-request.Post
 node-request-same-length-5 t c =
-    c .before .before .before .before .before .before .before .before .write-request .kept .1 .1 .1 .1 .1 .0 ∙ c .before .before .before .before .before .before .before .before .before .before .before .before .before .before .before .before .before .before .before .before .before .join-request .kept .1 .1 .1 .1 .1 .1 .0
+    let second = c .before .before .before .before .before .before .before .before .before .before .before .before .before .before .before .before .before .before .before .before .before in
+    c .before .before .before .before .before .before .before .before .write-request .kept .1 .1 .1 .1 .1 .0 ∙ second .side-request2 .kept .1 .1 .1 .1 .1 .1 .0 ∙ second .before .before .before .before .before .before .before .before .before .before .before .before .before .side-request .kept .1 .1 .1 .1 .1 .1 .0
 
 node-request-returns-4 : (t : ℕ) → node-request-lts.Need-returns-4 (
   place-reads.Asked,
@@ -460,17 +453,23 @@ node-request-returns-4 : (t : ℕ) → node-request-lts.Need-returns-4 (
   number-at-reads.Learnt,
   join-at-reads.Asked,
   join-at-reads.Learnt,
-  join-request-below t,
-  join-request.Post,
+  len-reads.Asked,
+  len-reads.Learnt,
+  side-request-below t,
+  side-request.Post,
   write-request-reads.Asked,
   write-request-reads.Learnt,
 ) (node-request-at t) node-request.Post
 node-request-returns-4 t c =
-    let a = c .before .before .before .before .before .before .before .before .before .before .before .before .before .before .before .before .before .before .before .before .before in
-    let j = a .before .before .before .before .before in
-    let k = j .before .before .before .before .before in
-    node-join (direction _) _ (k .place .ensures .0) _ (j .join-at .ensures) (k .before .if1 .left) (j .before .before .before .if2 .left)
-    (λ e. j .before .if3 .left (j .before .before .number-at .ensures ∙ e)) (a .join-request .ensures) (c .before .before .before .before .before .before .before .before .write-request .ensures)
+    let second = c .before .before .before .before .before .before .before .before .before .before .before .before .before .before .before .before .before .before .before .before .before in
+    let first = second .before .before .before .before .before .before .before .before .before .before .before .before .before in
+    let l = first .before .before .before .before .before in
+    let j = l .before .before .before .before in
+    let k = j .before .before in
+    let i = k .before .before .before in
+    node-join (direction _) _ (i .place .ensures .0) _ (j .join-at .ensures) (i .before .if1 .left) (k .before .if2 .left) (λ e. j .before .if3 .left (k .number-at .ensures ∙ e))
+    (join-done (direction _) _ _ (l .before .len .ensures) (l .len2 .ensures) (first .side-request .ensures) (second .side-request2 .ensures))
+    (c .before .before .before .before .before .before .before .before .write-request .ensures)
 
 abbrev side-request-Inv-loop : side-request-lts.InvT-loop
 side-request-Inv-loop nodes leaves outputs held₀ firsts₀ steps₀ log₀ side p q value only-if low high s₀ i₀ i-end held firsts steps log s i =
@@ -538,8 +537,8 @@ side-request-add-node-request : (t : ℕ) → side-request-lts.Need-add-node-req
 ) (side-request-at t) side-request.Post side-request-Inv-loop side-request-μ-loop
 side-request-add-node-request t c =
     let w = c .before .before .before .before .before .before .before .before .before .before .before .before .before .before .before .before .pre .1 .1 in
-    let f = side-fits (w .lists) _ (w .holds .of) in
-    omega (arith, c .before .before .before .before .before .loop-test .taken, c .before .before .before .before .before .before .before .highest .ensures, w .holds .own, f .inside, f .few)
+    let f = side-inside (w .lists) _ (w .holds .of) in
+    omega (arith, c .before .before .before .before .before .loop-test .taken, c .before .before .before .before .before .before .before .highest .ensures, w .holds .own, f .1, node-short (w .lists) _ (f .0))
 
 side-request-node-request-requires : (t : ℕ) → side-request-lts.Need-node-request-requires (
   lowest-reads.Asked,
@@ -655,37 +654,21 @@ side-request-returns t c =
     side-done (direction _) _ _ (l .loop .i) (l .before .before .lowest .ensures .0) (l .before .before .lowest .ensures .1) (l .before .highest .ensures)
     (omega (arith, l .loop .inv .0, l .loop .inv .1, c .loop-test .left)) (l .loop .inv .4)
 
-pub +join-request+node-request+side-request-spec : {M : Type 1} → statement M
-+join-request+node-request+side-request-spec =
-    close μ-join-request μ-node-request μ-side-request (λ t. join-request-lts.spec (
-      len-reads.Asked,
-      len-reads.Learnt,
-      side-request-below t,
-      side-request.Post,
-    )
-    (join-request-at t)
-    join-request.Post
-    (join-request-len-requires t)
-    (join-request-len-requires-2 t)
-    (join-request-side-request-requires t)
-    (join-request-side-request-requires-2 t)
-    (join-request-same-length t)
-    (join-request-same-length-2 t)
-    (join-request-same-length-3 t)
-    (join-request-same-length-4 t)
-    (join-request-returns t))
-    (λ t. node-request-lts.spec (
-      place-reads.Asked,
-      place-reads.Learnt,
-      number-at-reads.Asked,
-      number-at-reads.Learnt,
-      join-at-reads.Asked,
-      join-at-reads.Learnt,
-      join-request-below t,
-      join-request.Post,
-      write-request-reads.Asked,
-      write-request-reads.Learnt,
-    )
+pub +node-request+side-request-spec : {M : Type 1} → statement M
++node-request+side-request-spec = close μ-node-request μ-side-request (λ t. node-request-lts.spec (
+  place-reads.Asked,
+  place-reads.Learnt,
+  number-at-reads.Asked,
+  number-at-reads.Learnt,
+  join-at-reads.Asked,
+  join-at-reads.Learnt,
+  len-reads.Asked,
+  len-reads.Learnt,
+  side-request-below t,
+  side-request.Post,
+  write-request-reads.Asked,
+  write-request-reads.Learnt,
+)
     (node-request-at t)
     node-request.Post
     (node-request-returns t)
@@ -699,7 +682,10 @@ pub +join-request+node-request+side-request-spec : {M : Type 1} → statement M
     (node-request-same-length t)
     (node-request-returns-3 t)
     (node-request-join-at-requires t)
-    (node-request-join-request-requires t)
+    (node-request-len-requires t)
+    (node-request-len-requires-2 t)
+    (node-request-side-request-requires t)
+    (node-request-side-request-requires-2 t)
     (node-request-write-request-requires t)
     (node-request-same-length-2 t)
     (node-request-same-length-3 t)
