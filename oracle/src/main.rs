@@ -10,6 +10,7 @@ mod generate;
 mod random;
 mod record;
 mod refusals;
+mod speed;
 
 use std::{
     collections::BTreeMap,
@@ -31,7 +32,9 @@ oracle fresh SEED COUNT       writes random scripts, each with logs around the l
 oracle answer                 cases from standard input: writes them with their answers
 oracle record                 writes the recorded answers
 oracle check                  recorded answers from standard input: plays and compares each
-oracle differences            what rustsat does where document 01 differs";
+oracle differences            what rustsat does where document 01 differs
+oracle script NAME            writes a script of bench/run
+oracle time ROUNDS            a script from standard input: the answer, the log, the nanoseconds of a play";
 
 fn standard_input() -> Vec<u8> {
     let mut bytes = vec![];
@@ -85,6 +88,14 @@ fn show(capacity: u32) {
     println!("answer {:?}", answer.numbers());
     println!("log {}", hex(&answer.log));
     differences::show_log(&answer.log).iter().for_each(|line| println!("  {line}"));
+}
+
+fn time(rounds: usize) {
+    let case = Case { script: standard_input(), capacity: generate::WHOLE_LOG };
+    let answer = play(&case);
+    println!("answer {:?}", answer.numbers());
+    println!("log {}", hex(&answer.log));
+    println!("time {}", speed::time(&case, rounds));
 }
 
 fn random_cases(seed: u64, count: u32) -> impl Iterator<Item = Case> {
@@ -201,6 +212,12 @@ fn main() -> ExitCode {
         ["record"] => put_recorded(&record::list()),
         ["check"] => return check_recorded(),
         ["differences"] => differences::print(),
+        ["script", name] if speed::script(name).is_some() => {
+            write_out(&speed::script(name).expect("a script's name"));
+        }
+        ["time", rounds] if rounds.parse::<usize>().is_ok_and(|n| n > 0) => {
+            time(rounds.parse().expect("a number"));
+        }
         _ => {
             eprintln!("{USAGE}");
             return ExitCode::FAILURE;

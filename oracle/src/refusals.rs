@@ -16,7 +16,7 @@ const WHOLE: u32 = 65_536;
 const THREE: &[u8] = &[4, 1, 1, 0, 1, 2, 1, 4, 1, 6, 2, 0, 0, 0, 1, 0, 0, 2, 4, 0, 0, 2, 0, 0];
 
 /// Document 01's whole case.
-const PAIR: &[u8] = &[2, 1, 1, 0, 1, 2, 2, 0, 0, 0, 1, 0, 0, 3, 2, 1, 1];
+pub const PAIR: &[u8] = &[2, 1, 1, 0, 1, 2, 2, 0, 0, 0, 1, 0, 0, 3, 2, 1, 1];
 
 /// The head 200 and 1 and the leaves 0, 2, 4 up to 2 (count - 1).
 pub fn many_leaves(count: u32) -> Vec<u8> {
