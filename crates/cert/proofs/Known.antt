@@ -111,12 +111,12 @@ pub record KnownIn (h : Head) (t : List Node) (s : State) : Type 0 where
 
 -- ---- real definitions
 
-keep-pos : (c l : ℕ) → 0 < c → keep c l [] ≡ c · l ∷ []
+pub keep-pos : (c l : ℕ) → 0 < c → keep c l [] ≡ c · l ∷ []
 unfolding keep
 keep-pos zero l h = absurd (omega arith)
 keep-pos (suc c) l h = refl
 
-real-two : (x : Node) (v : ℕ) → 1 ≤ v → v ≤ len x → realRecords x v ≡ realIf x v ∷ realOnlyIf x v ∷ []
+pub real-two : (x : Node) (v : ℕ) → 1 ≤ v → v ≤ len x → realRecords x v ≡ realIf x v ∷ realOnlyIf x v ∷ []
 unfolding realRecords
 real-two x zero a b = absurd (omega arith)
 real-two x (suc v) a b = by (decLt (len x) (suc v))

@@ -3,13 +3,13 @@ use mathlib.Core.Path.{_≡_, refl, sym, _∙_}
 use mathlib.Core.Bool.{Bool, true, false, _||_}
 use mathlib.Core.Logic.{_≢_, _⊎_, inl, inr, ⊎-elim}
 use mathlib.Core.List.{List, [], _∷_, _++_}
-use Prim.Native.Nat.{ℕ, _+_, _*_, _≤_, _<_}
+use Prim.Native.Nat.{ℕ, zero, suc, _+_, _-_, _*_, _≤_, _<_}
 use native.Mathlib.Decide.{decLt}
 use native.Mathlib.Omega.{arith}
 use borrow.Author.Tests.{eq-eqb, ne-eqb}
 use lib.ListN.{length, length-append}
 use lib.Seq.{getD-append-seam}
-use Rattle.totdb.specs.Nodes.{Node, at, leaf, join, any, isOver, taken}
+use Rattle.totdb.specs.Nodes.{Node, at, leaf, join, len, limited, sideLen, any, isOver, taken}
 use Rattle.totdb.specs.declared.Side.{Side}
 use Rattle.cert.specs.Requests.{Request, request}
 use Rattle.cert.proofs.Apart.{Fit, Sized, Numbered, Right}
@@ -121,6 +121,15 @@ module _ (start : ℕ) (t : List Node) (law : Numbered start t) where
 pub right-more : (t u : List Node) (x : Request) → Right t x → Right (t ++ u) x
 unfolding Right
 right-more t u (request n v d) h = (omega (arith, h .0, length-append t u), h .1, rw (← at-more t u n (h .0)) (h .2))
+
+-- A side that begins inside its node has a literal.
+pub side-some : (t : List Node) (s : Side) → s .offset < len (at t (s .node)) → 1 ≤ sideLen t s
+unfolding sideLen
+side-some t s h = by (s .limit)
+  where
+    by : (k : ℕ) → 1 ≤ limited k (len (at t (s .node)) - s .offset)
+    by zero = unfold limited in omega arith
+    by (suc k) = unfold limited in omega arith
 
 -- ---- nodes under a join
 

@@ -2,16 +2,15 @@
 use mathlib.Core.Path.{_≡_, refl, sym, ap, subst, _∙_}
 use mathlib.Core.Bool.{Bool, true, false}
 use mathlib.Core.Logic.{⊎-elim}
-use mathlib.Core.List.{List, [], _∷_, _++_, flatMap, append-nil, List·Memᴰ, List·Memᴰ·append-cases, List·Memᴰ·eq-of-singleton}
+use mathlib.Core.List.{List, [], _∷_, _++_, flatMap, List·Memᴰ, List·Memᴰ·append-cases, List·Memᴰ·eq-of-singleton}
 use Prim.Native.Nat.{ℕ, _+_, _*_, _≤_}
 use native.Mathlib.Omega.{arith}
 use lib.ListN.{length, getD, take, set, length-set}
 use lib.Seq.{getD-set-same, getD-set-other}
-use Rattle.memo.proofs.Lists.{flatMap-append}
 use Rattle.record.specs.Record.{Record, numbers, steps, clauses}
-use Rattle.record.specs.Writing.{buffer, filled, Puts}
+use Rattle.record.specs.Writing.{buffer, filled, puts, Puts}
 use Rattle.record.specs.declared.Cursor.{Cursor}
-use Rattle.record.proofs.Writing.{after}
+use Rattle.record.proofs.Bytes.{two-bytes}
 use Rattle.totdb.specs.Nodes.{Node}
 use Rattle.totdb.specs.declared.Side.{Side}
 use Rattle.cert.specs.Definitions.{Key, keyRecords}
@@ -22,15 +21,16 @@ use Rattle.cert.proofs.Serving.{define-keys, define-clauses}
 use Rattle.define.specs.declared.Out.{Out}
 use Rattle.define.specs.Tables.{Lists, SideOf, Used, slot, Memory, memory, Exact, StandsFor, exact, over}
 use Rattle.define.specs.Stores.{Kept, kept, storeSteps, moved}
+use Rattle.define.proofs.Does.{over-all}
 use Rattle.define.proofs.Entries.{entry, from-same, from-other, stored-more, stored-length}
 use Rattle.define.proofs.Slots.{slot-inside, slot-once, slot-shown}
 use Rattle.define.proofs.Stores.{StoredAfter, stored-after, same-cursor}
-use Rattle.define.proofs.Written as written
+use Rattle.define.proofs.Written.{not-full, written-more}
 
 -- What is written fits in the log, so the steps are few.
 pub few-steps : (c : ℕ) (t : List Node) (m : Memory) (s : State) → Exact c t m s → m .out .cursor .full ≡ false → steps (s .log) ≤ 32768
 few-steps c t m s ex h =
-    omega (arith, ex .small, written.not-full c (s .log) (buffer (m .log) (m .out .cursor)) (ex .log) h, written.two-bytes (s .log))
+    omega (arith, ex .small, not-full c (s .log) (buffer (m .log) (m .out .cursor)) (ex .log) h, two-bytes (s .log))
 
 module _ {c : ℕ} {ls os : List ℕ} {t : List Node} {m : Memory} {s : State} (lists : Lists ls os t) (ex : Exact c t m s) (k : Key) (used : Used t k)
     (new : ¬ List·Memᴰ k (keys s)) where
@@ -80,9 +80,9 @@ module _ {c : ℕ} {ls os : List ℕ} {t : List Node} {m : Memory} {s : State} (
       by (yes e) = subst (Used t) e used
       by (no e) = ex .used j (old-key j e i)
 
-  module _ {log′ : List ℕ} {cur : Cursor} (puts : Puts (buffer (m .log) (m .out .cursor)) (flatMap numbers records) (buffer log′ cur)) where
-    whole : Puts (filled c []) (flatMap numbers (s .log ++ records)) (buffer log′ cur)
-    whole = rw (flatMap-append numbers (s .log) records) (after (record { is = ex .log }) puts)
+  module _ {log′ : List ℕ} {cur : Cursor} (put : Puts (buffer (m .log) (m .out .cursor)) (flatMap numbers records) (buffer log′ cur)) where
+    whole : buffer log′ cur ≡ puts (filled c []) (flatMap numbers (s .log ++ records))
+    whole = written-more c (s .log) (buffer (m .log) (m .out .cursor)) (ex .log) records put
 
     module _ {f k′ : List ℕ} {o : Out} (fq : f ≡ set (m .firsts) (slot k) (m .out .step)) where
       exact-after : cur .full ≡ false → StoredAfter (steps records) (m .steps) (moved cur (m .out)) (kept k′ o)
@@ -95,7 +95,7 @@ module _ {c : ℕ} {ls os : List ℕ} {t : List Node} {m : Memory} {s : State} (
             held-size = ex .held-size;
             firsts-size = rw fq (length-set (m .firsts) (slot k) (m .out .step) ∙ ex .firsts-size);
             steps-size = sa .size ∙ ex .steps-size;
-            log = ap (λ (x : Out). buffer log′ (x .cursor)) q ∙ whole .is;
+            log = ap (λ (x : Out). buffer log′ (x .cursor)) q ∙ whole;
             step = ap (λ (x : Out). x .step) q ∙ rw (ex .step);
             clauses = ap (λ (x : Out). x .clauses) q ∙ ex .clauses ∙ sym (ap length (define-clauses t k s));
             stored = ap (λ (x : Out). x .stored) q
@@ -127,16 +127,11 @@ module _ {c : ℕ} {ls os : List ℕ} {t : List Node} {m : Memory} {s : State} (
 
           by : (b : Bool) → cur .full ≡ b → StandsFor c t (memory (m .held) f k′ log′ o) (define t k s)
           by true h =
-              over (ap (λ (x : Cursor). x .full) same ∙ h) (record {
-                written = s .log ++ records;
-                rest = [];
-                split = sym (append-nil (s .log ++ records));
-                log = ap (buffer log′) same ∙ whole .is;
-              })
+              over (ap (λ (x : Cursor). x .full) same ∙ h) (over-all (ap (buffer log′) same ∙ whole))
           by false h =
-              let fit = written.not-full c (s .log ++ records) (buffer log′ cur) (whole .is) h in
+              let fit = not-full c (s .log ++ records) (buffer log′ cur) whole h in
               let b : steps (s .log) + steps records ≤ 32768 =
-              omega (arith, ex .small, fit, written.two-bytes (s .log ++ records), steps-append (s .log) records) in
+              omega (arith, ex .small, fit, two-bytes (s .log ++ records), steps-append (s .log) records) in
               let sa = stored-after (m .steps) (moved cur (m .out)) (steps records)
               (omega (arith, b, ex .stored, ex .few-stored, ex .steps-size)) (omega (arith, b, ex .step, ex .few)) in
               let kr : kept k′ o ≡ storeSteps (steps records) (kept (m .steps) (moved cur (m .out))) = rw (← e) kq in

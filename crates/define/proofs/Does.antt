@@ -1,9 +1,10 @@
 -- What functions do, composed: one act after the other, under a stronger premise, and by the flag of a full log.
-use mathlib.Core.Path.{_≡_, _∙_}
+use mathlib.Core.Path.{_≡_, sym, _∙_}
 use mathlib.Core.Bool.{true, false}
-use mathlib.Core.List.{List, _++_, append-assoc}
+use mathlib.Core.List.{List, [], _++_, flatMap, append-assoc, append-nil}
 use Prim.Native.Nat.{ℕ}
-use Rattle.record.specs.Record.{Record}
+use Rattle.record.specs.Record.{Record, numbers}
+use Rattle.record.specs.Writing.{buffer, filled, puts}
 use Rattle.totdb.specs.Nodes.{Node}
 use Rattle.cert.specs.State.{State}
 use Rattle.define.specs.Tables.{Lists, Memory, Exact, StandsFor, Over, Shown, exact, over, Does}
@@ -18,6 +19,10 @@ grown rs e x = record {
   split = e ∙ rw (x .split) (append-assoc (x .written) (x .rest) rs);
   log = x .log;
 }
+
+-- All records of the state are written.
+pub over-all : {c : ℕ} {m : Memory} {s : State} → buffer (m .log) (m .out .cursor) ≡ puts (filled c []) (flatMap numbers (s .log)) → Over c m s
+over-all {s = s} e = record { written = s .log; rest = []; split = sym (append-nil (s .log)); log = e }
 
 abbrev pub Grows : (List Node → State → State) → Type 0
 Grows f = (c : ℕ) (m : Memory) (t : List Node) (s : State) → Over c m s → Over c m (f t s)

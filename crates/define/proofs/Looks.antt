@@ -14,7 +14,7 @@ use Rattle.record.specs.Record.{numbers, steps}
 use Rattle.record.specs.Writing.{buffer, Puts}
 use Rattle.record.specs.declared.Cursor.{Cursor}
 use Rattle.totdb.specs.Nodes.{Node}
-use Rattle.cert.specs.Definitions.{Key, real, window-zero, window, pulls, keyRecords}
+use Rattle.cert.specs.Definitions.{Key, window-zero, window, pulls, keyRecords}
 use Rattle.cert.specs.Equal.{key-dec, keyRank}
 use Rattle.cert.specs.State.{State, keys, stepIn, define, lookUp}
 use Rattle.cert.proofs.Fits.{KeyFits, key-falls}

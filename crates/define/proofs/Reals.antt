@@ -11,8 +11,9 @@ use Rattle.record.specs.Record.{Record, numbers, steps, sum}
 use Rattle.record.specs.Writing.{signed}
 use Rattle.totdb.specs.Nodes.{Node, leaves, len, output}
 use Rattle.cert.specs.Definitions.{realRecords, realIf, realOnlyIf, atLeastZero}
+use Rattle.cert.proofs.Known.{keep-pos, real-two}
 
--- ---- the three cases
+-- ---- the cases of a value that the node has not
 
 real-zero : (x : Node) (v : ℕ) → v ≡ 0 → realRecords x v ≡ atLeastZero (leaves x) ∷ []
 unfolding realRecords
@@ -30,23 +31,7 @@ real-above x (suc v) h k = by (decLt (len x) (suc v))
     by (yes p) = refl
     by (no p) = absurd (p k)
 
-real-within : (x : Node) (v : ℕ) → 0 < v → v ≤ len x → realRecords x v ≡ realIf x v ∷ realOnlyIf x v ∷ []
-unfolding realRecords
-real-within x zero h k = absurd (omega arith)
-real-within x (suc v) h k = by (decLt (len x) (suc v))
-  where
-    by : (d : Dec (len x < suc v))
-        → dite {C = List Record} d (λ _. atLeastZero (map neg (leaves x)) ∷ []) (λ _. realIf x (suc v) ∷ realOnlyIf x (suc v) ∷ [])
-        ≡ realIf x (suc v) ∷ realOnlyIf x (suc v) ∷ []
-    by (yes p) = absurd (omega arith)
-    by (no p) = refl
-
 -- ---- their numbers
-
-keep-some : (c l : ℕ) → 0 < c → keep c l [] ≡ c · l ∷ []
-unfolding keep
-keep-some zero l h = absurd (omega arith)
-keep-some (suc c) l h = refl
 
 pub at-least-zero : (ls : List ℕ) → numbers (sum 0 (units ls ++ keep 0 0 []) 0) ≡ flatMap numbers (atLeastZero ls ∷ [])
 unfolding flatMap atLeastZero keep
@@ -68,9 +53,9 @@ module _ (x : Node) (v : ℕ) where
   unfolding signed flatMap realIf realOnlyIf
   within-is h k =
       rw (
-        real-within x v h k,
-        keep-some (len x + 1 - v) (output x v) (omega arith),
-        keep-some v (neg (output x v)) h,
+        real-two x v h k,
+        keep-pos (len x + 1 - v) (output x v) (omega arith),
+        keep-pos v (neg (output x v)) h,
         append-nil (numbers (sum (neg (output x v) + 1) (units (leaves x) ++ (v · neg (output x v) ∷ [])) v)),
       )
 
@@ -86,4 +71,4 @@ module _ (x : Node) (v : ℕ) where
 
   pub within-steps : 0 < v → v ≤ len x → 2 ≡ steps (realRecords x v)
   unfolding steps realIf realOnlyIf
-  within-steps h k = rw (real-within x v h k)
+  within-steps h k = rw (real-two x v h k)

@@ -8,7 +8,7 @@ use borrow.Author.Tests.{eq-eqb, ne-eqb, lt-ltb, le-ltb}
 use lib.ListN.{length, getD, take, drop}
 use lib.Seq.{getD-take, getD-drop, take-take, drop-drop}
 use Rattle.totdb.specs.Nodes.{Node, at, len, output, outputs, range}
-use Rattle.define.specs.Tables.{Lists, RealOf}
+use Rattle.define.specs.Tables.{Row, Lists, RealOf}
 use Rattle.define.specs.Stores.{outputIn}
 
 -- ---- values of a range
@@ -32,13 +32,23 @@ part-range g s (suc l) (suc f) m h =
     let e : suc s + f ≡ s + suc f = omega arith in
     part-range g (suc s) l f m (omega arith) ∙ ap (λ (a : ℕ). map g (range a m)) e
 
-part-take : (f m l : ℕ) (xs : List ℕ) → f + m ≤ l → take m (drop f (take l xs)) ≡ take m (drop f xs)
+pub part-take : (f m l : ℕ) (xs : List ℕ) → f + m ≤ l → take m (drop f (take l xs)) ≡ take m (drop f xs)
 part-take zero m l xs h = take-take m l xs (omega arith)
 part-take (suc f) m zero xs h = absurd (omega arith)
 part-take (suc f) m (suc l) [] h = refl
 part-take (suc f) m (suc l) (x ∷ xs) h = part-take f m l xs (omega arith)
 
 -- ---- the outputs of a node
+
+pub part-at : {ls os : List ℕ} {n : ℕ} {x : Node} → Row ls os n x → (f m : ℕ) → f + m ≤ len x → take m (drop (64 * n + f) os) ≡ outputs x f m
+unfolding outputs
+part-at {os = os} {n = n} {x = x} r f m k =
+    let e : 1 + f ≡ f + 1 = omega arith in
+    ap (take m) (sym (drop-drop f (64 * n) os))
+    ∙ sym (part-take f m (len x) (drop (64 * n) os) k)
+    ∙ ap (λ (l : List ℕ). take m (drop f l)) (r .output-list)
+    ∙ part-range (output x) 1 (len x) f m k
+    ∙ ap (λ (a : ℕ). map (output x) (range a m)) e
 
 module _ {ls os : List ℕ} {t : List Node} (lists : Lists ls os t) (n : ℕ) (h : n < length t) where
   pub output-at : (v : ℕ) → 1 ≤ v → v ≤ len (at t n) → getD os (64 * n + v - 1) 0 ≡ output (at t n) v
@@ -54,14 +64,7 @@ module _ {ls os : List ℕ} {t : List Node} (lists : Lists ls os t) (n : ℕ) (h
       ∙ ap (output (at t n)) d
 
   pub outputs-at : (f m : ℕ) → f + m ≤ len (at t n) → take m (drop (64 * n + f) os) ≡ outputs (at t n) f m
-  unfolding outputs
-  outputs-at f m k =
-      let e : 1 + f ≡ f + 1 = omega arith in
-      ap (take m) (sym (drop-drop f (64 * n) os))
-      ∙ sym (part-take f m (len (at t n)) (drop (64 * n) os) k)
-      ∙ ap (λ (l : List ℕ). take m (drop f l)) (lists .row n h .output-list)
-      ∙ part-range (output (at t n)) 1 (len (at t n)) f m k
-      ∙ ap (λ (a : ℕ). map (output (at t n)) (range a m)) e
+  outputs-at f m k = part-at (lists .row n h) f m k
 
 -- ---- the output of a value
 

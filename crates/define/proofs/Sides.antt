@@ -7,7 +7,7 @@ use Prim.Native.Nat.{ℕ, zero, suc, _+_, _-_, _*_, _≤_, _<_}
 use native.Mathlib.Decide.{decLe}
 use native.Mathlib.Omega.{arith}
 use Rattle.memo.specs.Visit.{each}
-use Rattle.totdb.specs.Nodes.{Node, at, lengthOver, limited, plainOr, keyed, sideLen, sideLit}
+use Rattle.totdb.specs.Nodes.{Node, at, len, lengthOver, limited, plainOr, keyed, sideLen, sideLit}
 use Rattle.totdb.specs.declared.Side.{Side}
 use Rattle.cert.specs.Definitions.{Direction, if, only-if, Key, real, window, stored, lacking, oneDef, realDef, windowDef, longDef, sideDef}
 use Rattle.cert.specs.Requests.{keyOf, lacks}
@@ -33,7 +33,7 @@ unfolding keyOf lacks
 or-keys (yes p) k i h = refl
 or-keys (no p) k i h = true-false refl h
 
-real-keys : (m n i : ℕ) (d : Direction) → lacks (realDef m n i d) ≡ false → keyOf (realDef m n i d) ≡ real n i ∷ []
+pub real-keys : (m n i : ℕ) (d : Direction) → lacks (realDef m n i d) ≡ false → keyOf (realDef m n i d) ≡ real n i ∷ []
 unfolding realDef
 real-keys m n zero if h = unfold lacks in true-false refl h
 real-keys m n zero only-if h = unfold keyOf in refl
@@ -49,13 +49,13 @@ window-keys n f m (suc i) only-if h = or-keys (decLe (suc i) m) (window n f m) (
 
 -- ---- plain, or a window
 
-long-plain : (m n f k i : ℕ) (d : Direction) → plainOr f k true false ≡ true → longDef m n f k i d ≡ realDef m n i d
+pub long-plain : (m n f k i : ℕ) (d : Direction) → plainOr f k true false ≡ true → longDef m n f k i d ≡ realDef m n i d
 unfolding longDef plainOr
 long-plain m n zero zero i d h = refl
 long-plain m n zero (suc k) i d h = true-false h refl
 long-plain m n (suc f) k i d h = true-false h refl
 
-long-window : (m n f k i : ℕ) (d : Direction) → plainOr f k true false ≡ false → longDef m n f k i d ≡ windowDef n f m i d
+pub long-window : (m n f k i : ℕ) (d : Direction) → plainOr f k true false ≡ false → longDef m n f k i d ≡ windowDef n f m i d
 unfolding longDef plainOr
 long-window m n zero zero i d h = true-false refl h
 long-window m n zero (suc k) i d h = refl
@@ -68,7 +68,7 @@ plain-zero zero (suc k) h = true-false h refl
 plain-zero (suc f) k h = true-false h refl
 
 module _ (s : Side) (plain : plainOr (s .offset) (s .limit) true false ≡ true) where
-  plain-keyed : (a : ℕ) → keyed s a ≡ a
+  pub plain-keyed : (a : ℕ) → keyed s a ≡ a
   unfolding keyed
   plain-keyed zero = refl
   plain-keyed (suc a) = omega (arith, plain-zero (s .offset) (s .limit) plain .0)
@@ -81,16 +81,19 @@ module _ (s : Side) (plain : plainOr (s .offset) (s .limit) true false ≡ true)
       rw (p .0, p .1, e)
 
 module _ (t : List Node) (s : Side) (a : ℕ) (d : Direction) where
-  short-keys : sideLen t s ≤ 1 → keyOf (sideDef t s a d) ≡ []
+  pub short-side : sideLen t s ≤ 1 → sideDef t s a d ≡ oneDef (sideLit t s 1) a d
   unfolding sideDef
-  short-keys h = by (decLe (sideLen t s) 1)
+  short-side h = by (decLe (sideLen t s) 1)
     where
       by : (c : Dec (sideLen t s ≤ 1))
-          → keyOf (dite c (λ _. oneDef (sideLit t s 1) a d) (λ _. longDef (sideLen t s) (s .node) (s .offset) (s .limit) a d)) ≡ []
-      by (yes p) = one-keys (sideLit t s 1) a d
+          → dite c (λ _. oneDef (sideLit t s 1) a d) (λ _. longDef (sideLen t s) (s .node) (s .offset) (s .limit) a d) ≡ oneDef (sideLit t s 1) a d
+      by (yes p) = refl
       by (no p) = absurd (p h)
 
-  long-side : 1 < sideLen t s → sideDef t s a d ≡ longDef (sideLen t s) (s .node) (s .offset) (s .limit) a d
+  short-keys : sideLen t s ≤ 1 → keyOf (sideDef t s a d) ≡ []
+  short-keys h = rw (short-side h) (one-keys (sideLit t s 1) a d)
+
+  pub long-side : 1 < sideLen t s → sideDef t s a d ≡ longDef (sideLen t s) (s .node) (s .offset) (s .limit) a d
   unfolding sideDef
   long-side h = by (decLe (sideLen t s) 1)
     where
@@ -114,13 +117,13 @@ module _ (t : List Node) (s : Side) (a : ℕ) (d : Direction) where
 
 -- ---- the code of a side's lookup
 
-side-length : (t : List Node) (s : Side) (k a : ℕ) → SideIn t s k a → sideLen t s ≡ lengthOver s k
+pub side-length : (t : List Node) (s : Side) {k : ℕ} → k ≡ len (at t (s .node)) → sideLen t s ≡ lengthOver s k
 unfolding sideLen
-side-length t s k a i = rw (i .node-len)
+side-length t s e = rw e
 
 window-in : (s : Side) (k a : ℕ) → 1 < lengthOver s k → (t : List Node) → SideIn t s k a → WindowIn t (s .node) k (s .offset) (lengthOver s k)
 window-in s k a h t i = record {
-  shown = record { side = s; of = i .of; node = refl; offset = refl; outputs = side-length t s k a i; long = h };
+  shown = record { side = s; of = i .of; node = refl; offset = refl; outputs = side-length t s (i .node-len); long = h };
   node-len = i .node-len;
 }
 
@@ -139,7 +142,7 @@ module _ {ls os : List ℕ} (s : Side) (k a : ℕ) where
   plain-in p t l i = record {
     there = side-inside l s (i .of) .0;
     node-len = i .node-len;
-    value = omega (arith, plain-keyed s p a, plain-length s p k, side-length t s k a i, i .value);
+    value = omega (arith, plain-keyed s p a, plain-length s p k, side-length t s (i .node-len), i .value);
   }
 
   pub plain-shown : plainOr (s .offset) (s .limit) true false ≡ true → Shown ls os (λ t. SideIn t s k a)
@@ -153,14 +156,14 @@ module _ {ls os : List ℕ} (s : Side) (k a : ℕ) where
   pub short-does : (d : Direction) {m : Memory} → lengthOver s k ≤ 1 → SideDoes ls os s k a d m m
   unfolding each
   short-does d h = record {
-    does = λ c t u l p st. rw (short-keys t s a d (rw (side-length t s k a (p .0)) h)) st;
+    does = λ c t u l p st. rw (short-keys t s a d (rw (side-length t s (p .0 .node-len)) h)) st;
   }
 
   pub plain-does : (d : Direction) {m n : Memory} → 1 < lengthOver s k → plainOr (s .offset) (s .limit) true false ≡ true
       → Does ls os (λ t. RealOf t (s .node) k (keyed s a)) (λ t u. lookUp t (real (s .node) (keyed s a)) u) m n → SideDoes ls os s k a d m n
   unfolding each
   plain-does d h p x = record {
-    does = λ c t u l q st. rw (plain-keys t s a d (rw (side-length t s k a (q .0)) h) p (q .1)) (x .does c t u l (plain-in p t l (q .0)) st);
+    does = λ c t u l q st. rw (plain-keys t s a d (rw (side-length t s (q .0 .node-len)) h) p (q .1)) (x .does c t u l (plain-in p t l (q .0)) st);
   }
 
   pub side-does : (d : Direction) {m n : Memory} → 1 < lengthOver s k → plainOr (s .offset) (s .limit) true false ≡ false
@@ -169,6 +172,6 @@ module _ {ls os : List ℕ} (s : Side) (k a : ℕ) where
   unfolding each
   side-does d h p x = record {
     does = λ c t u l q st.
-        let e = side-length t s k a (q .0) in
+        let e = side-length t s (q .0 .node-len) in
         rw (side-keys t s a d (rw e h) p (q .1), e) (x .does c t u l (window-in s k a h t (q .0)) st);
   }

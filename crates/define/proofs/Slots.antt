@@ -17,14 +17,14 @@ pub record Named (t : List Node) (k : Key) : Type 0 where
   pub fits : KeyFits t k
 
 module _ {ls os : List ℕ} {t : List Node} (lists : Lists ls os t) where
-  pub side-inside : (s : Side) → SideOf t s → (s .node < length t) × (s .offset + sideLen t s ≤ len (at t (s .node)))
+  pub side-inside : (s : Side) → SideOf t s → (s .node < length t) × (s .offset + sideLen t s ≤ len (at t (s .node))) × (1 ≤ sideLen t s)
   unfolding Sized Fit
   side-inside s (left-of n l o r h e) =
       let f : Fit t n (join l o s r) = subst (Fit t n) e (lists .sized n h) in
-      (omega (arith, f .0), f .3)
+      (omega (arith, f .0), f .3, f .7)
   side-inside s (right-of n l o a h e) =
       let f : Fit t n (join l o a s) = subst (Fit t n) e (lists .sized n h) in
-      (omega (arith, f .1), f .4)
+      (omega (arith, f .1), f .4, f .8)
 
   pub window-inside : {n f m : ℕ} → WindowOf t n f m → (n < length t) × (f + m ≤ len (at t n)) × (1 < m)
   window-inside w =

@@ -31,7 +31,7 @@ pub record StoredAfter (n : ℕ) (k : List ℕ) (o : Out) (s : Kept) : Type 0 wh
   pub front : take (o .stored + n) (s .table) ≡ take (o .stored) k ++ range (o .step) n
   pub size : length (s .table) ≡ length k
 
-range-snoc : (a n : ℕ) → range a (suc n) ≡ range a n ++ ((a + n) ∷ [])
+pub range-snoc : (a n : ℕ) → range a (suc n) ≡ range a n ++ ((a + n) ∷ [])
 unfolding range
 range-snoc a n = ap (range a) (sym (add-one n)) ∙ range-append a n 1
 

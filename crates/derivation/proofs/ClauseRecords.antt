@@ -41,7 +41,7 @@ added-some (Step n) h = refl
 added-some (Axiom l) h = refl
 
 -- Adding appends, whatever stands before.
-add-append : (ks js : List Token) → addSequence ks js ≡ ks ++ addSequence [] js
+pub add-append : (ks js : List Token) → addSequence ks js ≡ ks ++ addSequence [] js
 unfolding addSequence
 add-append ks [] = sym (append-nil ks)
 add-append ks (j ∷ js) = refl

@@ -9,11 +9,12 @@ use native.Mathlib.Decide.{decLe}
 use native.Mathlib.Omega.{arith}
 use borrow.Author.Tests.{leb-true}
 use lib.Dec.{leb}
-use lib.ListN.{length, length-append}
+use lib.ListN.{length}
 use Rattle.number.specs.Number.{groups}
 use Rattle.pb.specs.Sum.{neg}
 use Rattle.memo.proofs.Lists.{flatMap-append}
-use Rattle.record.specs.Record.{Record, derivation, clause, tokenNumbers, steps, deletion, numbers, sum, termNumbers, bytes, decodeLog}
+use Rattle.record.specs.Record.{Record, derivation, clause, tokenNumbers, steps, deletion, numbers, bytes, decodeLog}
+use Rattle.record.proofs.Bytes.{two-bytes}
 use Rattle.record.proofs.Decode.{Small, decode-bytes}
 use Rattle.totdb.specs.Nodes.{Node, len, leaf, join, output, leaves, at, sideLen, sideLit, sideOutputs, outputs, range, plainOr, sideLeaves, known, joined}
 use Rattle.totdb.specs.declared.Side.{Side}
@@ -32,7 +33,7 @@ use Rattle.player.proofs.Counts.{counted-act, all-keep}
 use Rattle.player.proofs.Refusal.{and-true, start-empty}
 use Rattle.player.proofs.Sound.{Sound, request-fits, requests-asked, serve-nodes, requests-right, sound-start}
 use Rattle.player.proofs.Tree.{Treed, treed-start, few-variables, treed-act}
-use Rattle.player.proofs.Values.{AllBelow, below-map, below-append, below-at, LowNode, below-mono, DefLow, values, keyRecords-below, clauseTokens-below, numbers-bytes, log-small}
+use Rattle.player.proofs.Values.{AllBelow, below-map, below-append, below-at, LowNode, below-mono, DefLow, values, keyRecords-below, clauseTokens-below, log-small}
 
 -- ---- the literals of a table are low
 
@@ -382,18 +383,6 @@ all-low {h} b v l a = all-keep (Low h b) (low-act h b v l) a (sound-start h) (lo
 
 -- ---- the log reads back
 
-steps-numbers : (rs : List Record) → steps rs ≤ length (flatMap numbers rs)
-unfolding steps flatMap numbers
-steps-numbers [] = omega arith
-steps-numbers (sum w ts n ∷ rs) = omega (arith, steps-numbers rs, length-append (termNumbers ts ++ (n ∷ [])) (flatMap numbers rs))
-steps-numbers (derivation ks ∷ rs) = omega (arith, steps-numbers rs, length-append (tokenNumbers ks) (flatMap numbers rs))
-steps-numbers (clause n ls ∷ rs) = omega (arith, steps-numbers rs, length-append ls (flatMap numbers rs))
-steps-numbers (deletion ss ∷ rs) = omega (arith, steps-numbers rs, length-append ss (flatMap numbers rs))
-
-steps-bytes : (rs : List Record) → steps rs ≤ length (bytes rs)
-unfolding bytes
-steps-bytes rs = omega (arith, numbers-bytes (flatMap numbers rs), steps-numbers rs)
-
 all-fit : {h : Head} {capacity : ℕ} {cs : List Command} {s u : State} → AllPassed h capacity cs s u → length (bytes (s .log)) ≤ capacity
     → length (bytes (u .log)) ≤ capacity
 all-fit all-done l = l
@@ -414,7 +403,7 @@ log-fits {h} {capacity} {cs} {u} e c a =
     let k = all-low 2097152 v (omega arith) a in
     let f : length (bytes (u .log)) ≤ capacity = all-fit a (start-empty h capacity) in
     log-small (u .log) (omega arith)
-    (subst (λ (b : ℕ). AllBelow b (flatMap values (u .log))) most-three (k .low (omega (arith, k .counted .next, steps-bytes (u .log))) .all))
+    (subst (λ (b : ℕ). AllBelow b (flatMap values (u .log))) most-three (k .low (omega (arith, k .counted .next, two-bytes (u .log))) .all))
 
 pub log-decodes : {h : Head} {capacity : ℕ} {cs : List Command} {u : State} → headFits h ≡ true → capacity ≤ 65536
     → AllPassed h capacity cs (start h) u → decodeLog (bytes (u .log)) ≡ some (u .log)

@@ -144,11 +144,14 @@ module _ (h : Head) (t : List Node) (l : ℕ) (low : variable l < h .variable) (
 
 -- ---- the log's length: a command never shortens the log
 
-bytes-grow : (n : ℕ) (rs qs : List Record) → n ≤ length (bytes rs) → n ≤ length (bytes (rs ++ qs))
+pub bytes-length : (rs qs : List Record) → length (bytes (rs ++ qs)) ≡ length (bytes rs) + length (bytes qs)
 unfolding bytes
-bytes-grow n rs qs h =
+bytes-length rs qs =
     rw (flatMap-append numbers rs qs, flatMap-append encode (flatMap numbers rs) (flatMap numbers qs))
-    (omega (arith, length-append (flatMap encode (flatMap numbers rs)) (flatMap encode (flatMap numbers qs))))
+    (length-append (flatMap encode (flatMap numbers rs)) (flatMap encode (flatMap numbers qs)))
+
+bytes-grow : (n : ℕ) (rs qs : List Record) → n ≤ length (bytes rs) → n ≤ length (bytes (rs ++ qs))
+bytes-grow n rs qs h = omega (arith, bytes-length rs qs)
 
 grown-act : (n : ℕ) (h : Head) (c : Command) (s : State) → firstNo (questions h (s .nodes) c) ≡ 0 → Sound h s → n ≤ length (bytes (s .log))
     → n ≤ length (bytes (act c s .log))

@@ -19,7 +19,7 @@ use Rattle.cert.proofs.Apart.{Sized, Numbered, Fit, Right, sized-ok, length-ran
 use Rattle.cert.proofs.Distinct.{true≢false}
 use Rattle.cert.proofs.Rules.{In, Ok}
 use Rattle.cert.proofs.Serving.{Asked, serve-in}
-use Rattle.cert.proofs.Tables.{sized-nil, numbered-nil, sized-snoc, numbered-leaf, old-or-new, numbered-join}
+use Rattle.cert.proofs.Tables.{sized-nil, numbered-nil, sized-snoc, numbered-leaf, old-or-new, numbered-join, side-some}
 use Rattle.player.specs.Player.{Question, firstNo, ask, sideFits, questions, make, act, delete}
 use Rattle.player.specs.declared.Command.{Command}
 use Rattle.player.proofs.Refusal.{and-true}
@@ -79,14 +79,6 @@ side-in t s e =
       ltb-true (s .offset) n
           (q .0),
     )
-
-side-some : (t : List Node) (s : Side) → s .offset < len (at t (s .node)) → 1 ≤ sideLen t s
-unfolding sideLen
-side-some t s h = by (s .limit)
-  where
-    by : (k : ℕ) → 1 ≤ limited k (len (at t (s .node)) - s .offset)
-    by zero = unfold limited in omega arith
-    by (suc k) = unfold limited in omega arith
 
 -- ---- the invariant
 

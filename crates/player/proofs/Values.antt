@@ -6,12 +6,12 @@ use Prim.Native.Nat.{ℕ, zero, suc, _+_, _-_, _≤_, _<_, _^_}
 use native.Mathlib.Decide.{decLt}
 use native.Mathlib.Omega.{arith}
 use lib.ListN.{length, length-append}
-use Rattle.number.specs.Number.{groups, encode}
-use Rattle.number.proofs.Laws.{encode-some}
+use Rattle.number.specs.Number.{groups}
 use Rattle.pb.specs.Rules.{Token, step, literal, add, divide, saturate}
 use Rattle.pb.specs.Sum.{Term, _·_, neg, units}
 use Rattle.memo.proofs.Lists.{map-twice, flatMap-append}
 use Rattle.record.specs.Record.{Record, termNumbers, tokenNumbers, sum, derivation, clause, deletion, numbers, bytes}
+use Rattle.record.proofs.Bytes.{numbers-bytes}
 use Rattle.record.proofs.Decode.{Small}
 use Rattle.record.proofs.Sums.{terms-append}
 use Rattle.record.proofs.Tokens.{tokens-append}
@@ -102,11 +102,6 @@ records-below b (r ∷ rs) k l p =
     let q = below-split b (values r) (flatMap values rs) p in
     below-append b (numbers r) (flatMap numbers rs) (record-below b r k (omega (arith, length-append (numbers r) (flatMap numbers rs))) (q .0))
     (records-below b rs k (omega (arith, length-append (numbers r) (flatMap numbers rs))) (q .1))
-
-pub numbers-bytes : (ns : List ℕ) → length ns ≤ length (flatMap encode ns)
-unfolding flatMap
-numbers-bytes [] = omega arith
-numbers-bytes (n ∷ ns) = omega (arith, numbers-bytes ns, encode-some n, length-append (encode n) (flatMap encode ns))
 
 pub log-small : (rs : List Record) → length (bytes rs) ≤ 65536 → AllBelow (128 ^ groups) (flatMap values rs) → Small (flatMap numbers rs)
 unfolding bytes

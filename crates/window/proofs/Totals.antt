@@ -1,5 +1,5 @@
 -- Sequences added up: the first that is not empty, then each other with its addition.
-use mathlib.Core.Path.{_≡_, refl, sym, _∙_, ap}
+use mathlib.Core.Path.{_≡_, refl, _∙_, ap}
 use mathlib.Core.List.{List, [], _∷_, _++_, map, flatMap, append-assoc, append-nil, List·Memᴰ, List·Memᴰ·head, List·Memᴰ·tail}
 use Prim.Native.Nat.{ℕ, zero, suc, _+_, _-_, _*_, _≤_, _<_}
 use native.Mathlib.Nat.{suc-mul}
@@ -13,12 +13,8 @@ use Rattle.totdb.specs.Nodes.{range}
 use Rattle.memo.proofs.Lists.{flatMap-append}
 use Rattle.cert.specs.Definitions.{addSequence, total}
 use Rattle.cert.proofs.WindowDerivations.{range-append}
+use Rattle.derivation.proofs.ClauseRecords.{add-append}
 use Rattle.window.specs.Window.{added}
-
-add-append : (ks js : List Token) → addSequence ks js ≡ ks ++ addSequence [] js
-unfolding addSequence
-add-append ks [] = sym (append-nil ks)
-add-append ks (j ∷ js) = refl
 
 module _ {A : Type 0} (p : A → List Token) where
   total-started : (k : Token) (ks : List Token) (l : List A) → total (k ∷ ks) (map p l) ≡ k ∷ ks ++ flatMap (added p) l

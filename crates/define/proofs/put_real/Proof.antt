@@ -11,10 +11,6 @@ use Rattle.pb.specs.Sum.{neg}
 use Rattle.define.proofs.Reals.{zero-is, above-is, within-is}
 use Rattle.define.proofs.put_real.Statement.{statement}
 use Rattle.define.proofs.put_real.Tie as tie
-use Rattle.define.proofs.put_real.Reads as reads
-use Rattle.define.proofs.put_real.Lts as lts
-use Rattle.pb.proofs.neg.Reads as neg-reads
-use Rattle.record.proofs.put_sum.Reads as put-sum-reads
 
 len-is : {l : List ℕ} (x : Node) → leaves x ≡ l → len x ≡ length l
 unfolding len
