@@ -1,5 +1,5 @@
 -- The steps read from the table of first steps are those that the definitions name.
-use mathlib.Core.Path.{_≡_, refl, sym, ap, _∙_}
+use mathlib.Core.Path.{_≡_, refl, ap, _∙_}
 use mathlib.Core.Bool.{Bool, true, false, true≢false}
 use mathlib.Core.Logic.{dite}
 use mathlib.Core.List.{List}
@@ -8,24 +8,20 @@ use native.Mathlib.Decide.{decLe}
 use native.Mathlib.Omega.{arith}
 use borrow.Author.Tests.{lt-ltb}
 use lib.ListN.{getD}
-use Rattle.totdb.specs.Nodes.{Node, sideLen, sideLit, plainOr}
-use Rattle.totdb.specs.declared.Side.{Side}
+use Rattle.totdb.specs.Nodes.{Node}
 use Rattle.pb.specs.Sum.{neg}
-use Rattle.cert.specs.Definitions.{Direction, if, only-if, Key, real, window-zero, window, stored, lacking, oneDef, realDef, windowDef, longDef, sideDef}
+use Rattle.cert.specs.Definitions.{if, only-if, Key, real, window-zero, window, stored, lacking, oneDef, realDef, windowDef}
 use Rattle.cert.specs.Requests.{lacks}
 use Rattle.cert.specs.State.{Stored, fromIn, stepIn}
 use Rattle.derivation.specs.Operands.{operand, nextStep}
 use Rattle.derivation.specs.declared.SemDefinition.the-variants.{None, Step, Axiom}
 use Rattle.define.specs.Tables.{slot, Used, WindowOf, direction}
+use Rattle.define.proofs.Stores.{next-step}
 use Rattle.clauses.specs.Firsts.{stepAt, realStep, windowStep, FirstsOf}
 
 at-low : (n k : ℕ) → n < 2000000 → stepAt n k ≡ n + k
 unfolding stepAt
 at-low n k h = rw (lt-ltb _ _ h)
-
-pub next-low : (n : ℕ) → n < 2000000 → nextStep n ≡ n + 1
-unfolding nextStep
-next-low n h = rw (lt-ltb _ _ h)
 
 -- A definition that there is where P holds.
 there-or : {P : Type 0} (at-step : Key → ℕ → ℕ) (d : Dec P) (k : Key) (i n : ℕ) → n ≡ at-step k i
@@ -48,7 +44,7 @@ module _ {t : List Node} {firsts : List ℕ} {es : List Stored} (f : FirstsOf t 
   real-read n m zero false h k l = absurd (true≢false l)
   real-read n m (suc v) true h k l =
       there-or (stepIn es) (decLe (suc v) m) (real n (suc v)) 1 (nextStep (getD firsts (68 * n + suc v) 0))
-      (ap nextStep (f .is (real n (suc v)) (h, k)) ∙ next-low (fromIn es (real n (suc v))) (f .few (real n (suc v)))) l
+      (ap nextStep (f .is (real n (suc v)) (h, k)) ∙ next-step (fromIn es (real n (suc v))) (f .few (real n (suc v)))) l
   real-read n m (suc v) false h k l = ap Step (f .is (real n (suc v)) (h, k) ∙ omega arith)
 
   after-first : {n o m : ℕ} → WindowOf t n o m → (k : ℕ) → stepAt (getD firsts (68 * n + 67) 0) k ≡ stepIn es (window n o m) (suc k)
@@ -65,51 +61,6 @@ module _ {t : List Node} {firsts : List ℕ} {es : List Stored} (f : FirstsOf t 
       there-or (stepIn es) (decLe (suc i) m) (window n o m) (2 * i + 2) (stepAt (getD firsts (68 * n + 67) 0) (2 * i + 1))
       (after-first w (2 * i + 1) ∙ rw (two i)) l
   window-read n o m (suc i) false w l = ap Step (after-first w (2 * i) ∙ rw (one i))
-
--- ---- a side, by its length and form
-
-module _ (t : List Node) (s : Side) (a : ℕ) (d : Direction) where
-  pub one-def : sideLen t s ≤ 1 → sideDef t s a d ≡ oneDef (sideLit t s 1) a d
-  unfolding sideDef
-  one-def h = by (decLe (sideLen t s) 1)
-    where
-      by : (c : Dec (sideLen t s ≤ 1))
-          → dite c (λ _. oneDef (sideLit t s 1) a d) (λ _. longDef (sideLen t s) (s .node) (s .offset) (s .limit) a d) ≡ oneDef (sideLit t s 1) a d
-      by (yes p) = refl
-      by (no p) = absurd (p h)
-
-  long-def : 1 < sideLen t s → sideDef t s a d ≡ longDef (sideLen t s) (s .node) (s .offset) (s .limit) a d
-  unfolding sideDef
-  long-def h = by (decLe (sideLen t s) 1)
-    where
-      by : (c : Dec (sideLen t s ≤ 1))
-          → dite c (λ _. oneDef (sideLit t s 1) a d) (λ _. longDef (sideLen t s) (s .node) (s .offset) (s .limit) a d)
-          ≡ longDef (sideLen t s) (s .node) (s .offset) (s .limit) a d
-      by (yes p) = absurd (omega arith)
-      by (no p) = refl
-
-  -- By the test of the code.
-  pub plain-def : 1 < sideLen t s → plainOr (s .offset) (s .limit) true false ≡ true
-      → (s .offset ≡ 0) × (sideDef t s a d ≡ realDef (sideLen t s) (s .node) a d)
-  unfolding longDef plainOr
-  plain-def h p = let r = by (s .offset) (s .limit) p in (r .0, long-def h ∙ r .1)
-    where
-      by : (f k : ℕ) → plainOr f k true false ≡ true
-          → (f ≡ 0) × (longDef (sideLen t s) (s .node) f k a d ≡ realDef (sideLen t s) (s .node) a d)
-      by zero zero e = (refl, refl)
-      by zero (suc k) e = absurd (true≢false (sym e))
-      by (suc f) k e = absurd (true≢false (sym e))
-
-  pub window-def : 1 < sideLen t s → plainOr (s .offset) (s .limit) true false ≡ false
-      → sideDef t s a d ≡ windowDef (s .node) (s .offset) (sideLen t s) a d
-  unfolding longDef plainOr
-  window-def h p = long-def h ∙ by (s .offset) (s .limit) p
-    where
-      by : (f k : ℕ) → plainOr f k true false ≡ false
-          → longDef (sideLen t s) (s .node) f k a d ≡ windowDef (s .node) f (sideLen t s) a d
-      by zero zero e = absurd (true≢false e)
-      by zero (suc k) e = refl
-      by (suc f) k e = refl
 
 -- ---- the cases of the code
 

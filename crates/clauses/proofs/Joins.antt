@@ -1,44 +1,40 @@
 -- The sides and outputs of a join, as the code reads them from the lists of the nodes; and the parts of a clause.
-use mathlib.Core.Path.{_≡_, refl, sym, ap, subst, _∙_}
-use mathlib.Core.Bool.{Bool, true, false, not, true≢false}
+use mathlib.Core.Path.{_≡_, refl, sym, ap, _∙_}
+use mathlib.Core.Bool.{Bool, true, false, not}
 use mathlib.Core.Logic.{dite}
-use mathlib.Core.List.{List, [], _∷_, _++_, map, flatMap, append-nil}
+use mathlib.Core.List.{List, [], _∷_, _++_, flatMap, append-nil}
 use Prim.Native.Nat.{ℕ, zero, suc, _+_, _-_, _*_, _≤_, _<_}
 use native.Mathlib.Decide.{decLe}
 use native.Mathlib.Omega.{arith}
-use lib.ListN.{length, getD, take, drop}
-use lib.Seq.{getD-take, getD-drop}
+use lib.ListN.{length, getD}
 use Rattle.pb.specs.Sum.{neg}
 use Rattle.record.specs.Record.{numbers, derivation, clause}
 use Rattle.record.specs.Writing.{Buffer, Puts}
 use Rattle.record.proofs.Writing.{after}
-use Rattle.totdb.specs.Nodes.{Node, leaf, join, at, len, output, outputs, range, fromFirst, sideLen, sideLit, lengthOver, plainOr, keyed}
+use Rattle.totdb.specs.Nodes.{Node, leaf, join, at, len, output, outputs, fromFirst, sideLen, sideLit, lengthOver, plainOr, keyed}
 use Rattle.totdb.specs.declared.Side.{Side}
 use Rattle.cert.specs.Definitions.{Direction, Key, real, window, stored, lacking, oneDef, realDef, windowDef, longDef, sideDef}
 use Rattle.cert.specs.Requests.{Clause, negPart, posPart, lacks, keyOf, looksOf}
 use Rattle.memo.specs.Visit.{each}
 use Rattle.memo.proofs.Unrolled.{each-append}
 use Rattle.cert.specs.State.{State, Stored, stepIn, lookUp, write, writeClause}
-use Rattle.cert.proofs.Apart.{Fit, Sized}
 use Rattle.derivation.specs.Operands.{operand, part, stepTokens}
 use Rattle.derivation.specs.declared.Part.{Part}
 use Rattle.derivation.specs.declared.SemDefinition.{SemDefinition}
-use Rattle.derivation.proofs.ClauseRecords.{clause-step}
-use Rattle.define.specs.Tables.{Memory, StandsFor, Does, Lists, SideOf, left-of, right-of, SideIn, RealOf, WindowOf, direction}
-use Rattle.clauses.specs.declared.Join.{Join}
 use Rattle.derivation.specs.declared.SemDefinition.the-variants.{Step}
+use Rattle.derivation.proofs.ClauseRecords.{clause-step}
+use Rattle.define.specs.Tables.{Memory, Does, Lists, SideOf, left-of, right-of, SideIn, RealOf, WindowOf, direction}
+use Rattle.define.proofs.Does.{does-then, does-under, does-same}
+use Rattle.define.proofs.Rows.{output-at}
+use Rattle.define.proofs.Sides.{real-keys, long-plain, long-window, plain-keyed, short-side, long-side, side-length}
+use Rattle.define.proofs.Slots.{side-inside}
+use Rattle.clauses.specs.declared.Join.{Join}
 use Rattle.clauses.specs.Firsts.{realStep, windowStep, FirstsOf}
-use Rattle.clauses.proofs.Firsts.{real-read, window-read, one-def, plain-def, window-def}
+use Rattle.clauses.proofs.Firsts.{real-read, window-read}
 use Rattle.clauses.specs.Joins.{JoinOf, JoinIn, ClauseIn, SideReach, ClauseReach, Within, clauseOf, clausePart}
 use Rattle.clauses.proofs.Standing.{clauseRecords}
 
 -- ---- the outputs of a node
-
-map-range : (f : ℕ → ℕ) (s n i : ℕ) → i < n → getD (map f (range s n)) i 0 ≡ f (s + i)
-unfolding range
-map-range f s zero i h = absurd (omega arith)
-map-range f s (suc n) zero h = let e : s ≡ s + 0 = omega arith in ap f e
-map-range f s (suc n) (suc i) h = let e : suc s + i ≡ s + suc i = omega arith in map-range f (suc s) n i (omega arith) ∙ ap f e
 
 from-first : (x : Node) (i : ℕ) → 1 ≤ i → i ≤ len x → fromFirst (output x 1) i ≡ output x i
 unfolding fromFirst output len
@@ -46,47 +42,28 @@ from-first (leaf l) i h k = omega arith
 from-first (join ls o a b) i h k = omega arith
 
 module _ {ls os : List ℕ} {t : List Node} (l : Lists ls os t) where
-  output-at : (n i j : ℕ) → n < length t → i < len (at t n) → j ≡ 64 * n + i → getD os j 0 ≡ output (at t n) (i + 1)
-  unfolding outputs
-  output-at n i j h k e =
-      let a : getD os (64 * n + i) 0 ≡ getD (take (len (at t n)) (drop (64 * n) os)) i 0
-      = sym (getD-take (len (at t n)) (drop (64 * n) os) i 0 k ∙ getD-drop (64 * n) os i 0) in
-      let b : 0 + 1 + i ≡ i + 1 = omega arith in
-      ap (λ (p : ℕ). getD os p 0) e ∙ a ∙ ap (λ (y : List ℕ). getD y i 0) (l .row n h .output-list)
-      ∙ map-range (output (at t n)) (0 + 1) (len (at t n)) i k ∙ ap (output (at t n)) b
+  first-output : (n : ℕ) → n < length t → 1 ≤ len (at t n) → getD os (64 * n) 0 ≡ output (at t n) 1
+  first-output n h k = let e : 64 * n ≡ 64 * n + 1 - 1 = omega arith in ap (λ (p : ℕ). getD os p 0) e ∙ output-at l n h 1 (omega arith) k
 
   -- ---- sides
-
-  side-facts : {s : Side} → SideOf t s → (s .node < length t) × (s .offset + sideLen t s ≤ len (at t (s .node))) × (1 ≤ sideLen t s)
-  unfolding Sized Fit
-  side-facts (left-of n m o r h e) =
-      let f = subst (Fit t n) e (l .sized n h) in
-      (omega (arith, f .0), f .3, f .7)
-  side-facts (right-of n m o a h e) =
-      let f = subst (Fit t n) e (l .sized n h) in
-      (omega (arith, f .1), f .4, f .8)
 
   side-literal : {s : Side} (a : ℕ) → SideOf t s → 1 ≤ a → a ≤ sideLen t s
       → fromFirst (getD os (64 * s .node) 0) (s .offset + a) ≡ sideLit t s a
   unfolding sideLit
   side-literal {s} a o h k =
-      let f = side-facts o in
-      ap (λ (first : ℕ). fromFirst first (s .offset + a)) (output-at (s .node) 0 (64 * s .node) (f .0) (omega (arith, f .1, f .2)) (omega arith))
+      let f = side-inside l s o in
+      ap (λ (first : ℕ). fromFirst first (s .offset + a)) (first-output (s .node) (f .0) (omega (arith, f .1, f .2)))
       ∙ from-first (at t (s .node)) (s .offset + a) (omega arith) (omega (arith, f .1))
-
-  side-len : {s : Side} {k a : ℕ} → SideIn t s k a → lengthOver s k ≡ sideLen t s
-  unfolding sideLen
-  side-len i = rw (i .node-len)
 
   side-reach : {s : Side} {k a : ℕ} → SideIn t s k a → SideReach os s k a
   side-reach {s} {k} {a} i =
-      let f = side-facts (i .of) in
+      let f = side-inside l s (i .of) in
       let r = l .row (s .node) (f .0) in
-      let e = side-len i in
+      let e = side-length t s (i .node-len) in
       record {
         size = l .outputs-size;
         node = omega (arith, f .0, l .few);
-        first = rw (output-at (s .node) 0 (64 * s .node) (f .0) (omega (arith, f .1, f .2)) (omega arith)) (r .low 1 (omega arith) (omega (arith, f .1, f .2)));
+        first = rw (first-output (s .node) (f .0) (omega (arith, f .1, f .2))) (r .low 1 (omega arith) (omega (arith, f .1, f .2)));
         offset = omega (arith, f .1, r .short);
         short = omega (arith, f .1, r .short, e);
         value = omega (arith, i .value, e);
@@ -96,9 +73,7 @@ module _ {ls os : List ℕ} {t : List Node} (l : Lists ls os t) where
 
   pub last-literal : {x : Join} {v : ℕ} → JoinIn t x v → getD os (64 * x .node + v - 1) 0 ≡ output (at t (x .node)) v
   last-literal {x} {v} i =
-      let e : v - 1 + 1 ≡ v = omega (arith, i .above) in
-      output-at (x .node) (v - 1) (64 * x .node + v - 1) (i .of .there) (omega (arith, i .above, i .within, i .of .own-len)) (omega (arith, i .above))
-      ∙ ap (output (at t (x .node))) e
+      output-at l (x .node) (i .of .there) v (i .above) (omega (arith, i .within, i .of .own-len))
 
 module _ {t : List Node} {x : Join} where
   left-side : JoinOf t x → SideOf t (x .left)
@@ -119,16 +94,16 @@ module _ {t : List Node} {x : Join} where
 
     pub clause-reach : {ls os : List ℕ} → Lists ls os t → ClauseReach os x v i j b
     clause-reach l =
-        let e = side-len l left-in in
-        let f = side-len l right-in in
+        let e = side-length t (x .left) (left-in .node-len) in
+        let f = side-length t (x .right) (right-in .node-len) in
         record {
           node = omega (arith, k .of .of .there, l .few);
           above = k .of .above;
           within = omega (arith, k .of .within, k .of .of .own-len, l .row (x .node) (k .of .of .there) .short);
           left = side-reach l left-in;
           right = side-reach l right-in;
-          left-in = rw e (k .left);
-          right-in = rw f (k .right);
+          left-in = rw (← e) (k .left);
+          right-in = rw (← f) (k .right);
         }
 
 -- ---- the definitions that a clause looks up are there
@@ -217,27 +192,17 @@ unfolding negPart
 neg-one t s zero h = absurd (omega arith)
 neg-one t s (suc a) h = refl
 
-keyed-plain : (s : Side) (a : ℕ) → s .offset ≡ 0 → keyed s a ≡ a
-unfolding keyed
-keyed-plain s zero e = refl
-keyed-plain s (suc a) e = omega arith
-
 pub keyed-low : {os : List ℕ} {s : Side} {k a : ℕ} → SideReach os s k a → plainOr (s .offset) (s .limit) true false ≡ true → keyed s a ≤ 65
-unfolding plainOr
-keyed-low {s = s} {a = a} r p = omega (arith, keyed-plain s a (by (s .offset) (s .limit) p), r .short, r .value)
-  where
-    by : (f k : ℕ) → plainOr f k true false ≡ true → f ≡ 0
-    by zero k e = refl
-    by (suc f) k e = absurd (true≢false (sym e))
+keyed-low {s = s} {a = a} r p = omega (arith, plain-keyed s p a, r .short, r .value)
 
 module _ {ls os : List ℕ} {t : List Node} (l : Lists ls os t) {s : Side} {k a : ℕ} (i : SideIn t s k a) where
   pub only-absent : lengthOver s k < a → [] ≡ clausePart true t s a
   unfolding clausePart
-  only-absent h = pos-none t s a (omega (arith, side-len l i))
+  only-absent h = pos-none t s a (omega (arith, side-length t s (i .node-len)))
 
   pub only-literal : 1 ≤ a → a ≤ lengthOver s k → fromFirst (getD os (64 * s .node) 0) (s .offset + a) ∷ [] ≡ clausePart true t s a
   unfolding clausePart
-  only-literal h g = rw (side-literal l a (i .of) h (omega (arith, side-len l i))) (pos-one t s a (omega (arith, side-len l i)))
+  only-literal h g = rw (side-literal l a (i .of) h (omega (arith, side-length t s (i .node-len)))) (pos-one t s a (omega (arith, side-length t s (i .node-len))))
 
   pub if-absent : a ≡ 0 → [] ≡ clausePart false t s a
   unfolding clausePart negPart
@@ -245,30 +210,33 @@ module _ {ls os : List ℕ} {t : List Node} (l : Lists ls os t) {s : Side} {k a 
 
   pub if-literal : 1 ≤ a → a ≤ lengthOver s k → neg (fromFirst (getD os (64 * s .node) 0) (s .offset + a)) ∷ [] ≡ clausePart false t s a
   unfolding clausePart
-  if-literal h g = rw (side-literal l a (i .of) h (omega (arith, side-len l i))) (neg-one t s a h)
+  if-literal h g = rw (side-literal l a (i .of) h (omega (arith, side-length t s (i .node-len)))) (neg-one t s a h)
 
   pub one-side : (d : Direction) → lengthOver s k ≤ 1 → oneDef (fromFirst (getD os (64 * s .node) 0) (s .offset + 1)) a d ≡ sideDef t s a d
   one-side d h =
-      ap (λ (o : ℕ). oneDef o a d) (side-literal l 1 (i .of) (omega arith) (side-facts l (i .of) .2))
-      ∙ sym (one-def t s a d (omega (arith, side-len l i)))
+      ap (λ (o : ℕ). oneDef o a d) (side-literal l 1 (i .of) (omega arith) (side-inside l s (i .of) .2))
+      ∙ sym (short-side t s a d (omega (arith, side-length t s (i .node-len))))
 
   module _ {firsts : List ℕ} {es : List Stored} (f : FirstsOf t firsts es) (b : Bool) (h : 1 < lengthOver s k)
       (there : lacks (sideDef t s a (direction b)) ≡ false) where
     pub plain-side : plainOr (s .offset) (s .limit) true false ≡ true
         → Step (realStep (getD firsts (68 * s .node + keyed s a) 0) (keyed s a) b) ≡ operand (stepIn es) (sideDef t s a (direction b))
     plain-side p =
-        let d = plain-def t s a (direction b) (omega (arith, side-len l i)) p in
+        let d =
+        long-side t s a (direction b) (omega (arith, side-length t s (i .node-len)))
+        ∙ long-plain (sideLen t s) (s .node) (s .offset) (s .limit) a (direction b) p in
         let r = side-reach l i in
-        let e : keyed s a ≡ a = keyed-plain s a (d .0) in
-        rw (e, d .1) (real-read f (s .node) (sideLen t s) a b (r .node) (omega (arith, r .short, r .value)) (rw (d .1) at there))
+        rw (plain-keyed s p a, d) (real-read f (s .node) (sideLen t s) a b (r .node) (omega (arith, r .short, r .value)) (rw d at there))
 
     pub window-side : plainOr (s .offset) (s .limit) true false ≡ false
         → Step (windowStep (getD firsts (68 * s .node + 66) 0) (getD firsts (68 * s .node + 67) 0) a b)
         ≡ operand (stepIn es) (sideDef t s a (direction b))
     window-side p =
-        let d = window-def t s a (direction b) (omega (arith, side-len l i)) p in
+        let d =
+        long-side t s a (direction b) (omega (arith, side-length t s (i .node-len)))
+        ∙ long-window (sideLen t s) (s .node) (s .offset) (s .limit) a (direction b) p in
         let w : WindowOf t (s .node) (s .offset) (sideLen t s)
-        = record { side = s; of = i .of; node = refl; offset = refl; outputs = refl; long = omega (arith, side-len l i) } in
+        = record { side = s; of = i .of; node = refl; offset = refl; outputs = refl; long = omega (arith, side-length t s (i .node-len)) } in
         rw d (window-read f (s .node) (s .offset) (sideLen t s) a b w (rw d at there))
 
 -- A clause's own definition.
@@ -291,16 +259,6 @@ clause-puts k u this left right p q o step et el er ek es x y =
 
 -- ---- a clause after its lookups
 
-this-key : (m n v : ℕ) (b : Bool) → 1 ≤ v → v ≤ m → keyOf (realDef m n v (direction b)) ≡ real n v ∷ []
-unfolding realDef keyOf direction
-this-key m n zero b h k = absurd (omega arith)
-this-key m n (suc v) false h k = refl
-this-key m n (suc v) true h k = by (decLe (suc v) m)
-  where
-    by : (d : Dec (suc v ≤ m)) → keyOf (dite d (λ _. stored (real n (suc v)) 1) (λ _. lacking)) ≡ real n (suc v) ∷ []
-    by (yes p) = refl
-    by (no p) = absurd (p k)
-
 module _ {x : Join} {v i j : ℕ} {b : Bool} where
   clause-is : (t : List Node) → ClauseIn t x v i j b → (s : State)
       → write (clauseOf t x v i j b)
@@ -314,7 +272,8 @@ module _ {x : Join} {v i j : ℕ} {b : Bool} where
             (keyOf (sideDef t (x .left) i (direction (not b))) ++ keyOf (sideDef t (x .right) j (direction (not b))))
             (keyOf (realDef (len (at t (x .node))) (x .node) v (direction b))) s,
         each-append (lookUp t) (keyOf (sideDef t (x .left) i (direction (not b)))) (keyOf (sideDef t (x .right) j (direction (not b)))) s,
-        this-key (len (at t (x .node))) (x .node) v b (k .of .above) (omega (arith, k .of .within, k .of .of .own-len)),
+        real-keys (len (at t (x .node))) (x .node) v (direction b)
+            (this-there (len (at t (x .node))) (x .node) v b (k .of .above) (omega (arith, k .of .within, k .of .of .own-len))),
       )
 
   pub does-clause : {ls os : List ℕ} {m n p q r : Memory}
@@ -325,9 +284,7 @@ module _ {x : Join} {v i j : ℕ} {b : Bool} where
       → Does ls os (λ t. RealOf t (x .node) (x .len) v) (λ t u. lookUp t (real (x .node) v) u) p q
       → Does ls os (λ t. ClauseIn t x v i j b) (λ t u. write (clauseOf t x v i j b) u) q r
       → Does ls os (λ t. ClauseIn t x v i j b) (λ t u. writeClause t (clauseOf t x v i j b) u) m r
-  does-clause {r = r} d e f g = record {
-    does = λ c t s l k y. subst (StandsFor c t r) (clause-is t k s)
-        (g .does c t _ l k
-        (f .does c t _ l (this-in k)
-        (e .does c t _ l (right-in k, side-there t (x .right) j b (k .right)) (d .does c t s l (left-in k, side-there t (x .left) i b (k .left)) y))));
-  }
+  does-clause d e f g =
+      does-same (λ t s l k. clause-is t k s)
+      (does-then (does-under (λ t l k. (left-in k, side-there t (x .left) i b (k .left))) d)
+      (does-then (does-under (λ t l k. (right-in k, side-there t (x .right) j b (k .right))) e) (does-then (does-under (λ t l k. this-in k) f) g)))

@@ -1,5 +1,4 @@
 -- What the code reads and writes for a clause, as facts about its memory and the state that it stands for.
-pub mod Counts
 pub mod Standing
 pub mod Firsts
 pub mod Joins

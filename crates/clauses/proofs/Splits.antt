@@ -1,8 +1,8 @@
 -- The clauses of a value, one for each split of a sum over the two sides.
 use mathlib.Core.Path.{_≡_, refl, sym, ap, subst, _∙_}
 use mathlib.Core.Bool.{Bool, true, false, true≢false}
-use mathlib.Core.List.{List, [], _∷_, _++_, map, map-append}
-use Prim.Native.Nat.{ℕ, zero, suc, _+_, _-_, _≤_, min}
+use mathlib.Core.List.{List, [], _∷_, map, map-append}
+use Prim.Native.Nat.{ℕ, suc, _+_, _-_, _≤_, min}
 use native.Mathlib.Omega.{arith}
 use Rattle.memo.specs.Visit.{each}
 use Rattle.memo.proofs.Lists.{map-agree}
@@ -13,24 +13,13 @@ use Rattle.cert.specs.Requests.{Clause, request, clausesOf, clausesAt, ifClause
 use Rattle.cert.specs.State.{State, writeClause}
 use Rattle.cert.proofs.Apart.{Sized, Fit, splits-mem}
 use Rattle.define.specs.Tables.{Lists, Memory, Does, Shown, direction}
+use Rattle.define.proofs.Does.{does-none, does-then, does-under, does-same}
+use Rattle.define.proofs.Sides.{side-length}
+use Rattle.define.proofs.Stores.{range-snoc}
 use Rattle.clauses.specs.declared.Join.{Join}
 use Rattle.clauses.specs.Joins.{JoinIn, ClauseIn, Within, clauseOf, clausePart, lastLiteral, splitSum, leftValue, splitClause}
-use Rattle.clauses.proofs.Standing.{does-then, does-same, does-nothing}
-
-range-more : (s n : ℕ) → range s (suc n) ≡ range s n ++ ((s + n) ∷ [])
-unfolding range
-range-more s zero = let e : s ≡ s + 0 = omega arith in ap (λ (a : ℕ). a ∷ []) e
-range-more s (suc n) = let e : suc s + n ≡ s + suc n = omega arith in rw (← e) (ap (λ (l : List ℕ). s ∷ l) (range-more (suc s) n))
 
 -- ---- which splits there are
-
-left-len : {t : List Node} {x : Join} {v : ℕ} → JoinIn t x v → lengthOver (x .left) (x .«left_len») ≡ sideLen t (x .left)
-unfolding sideLen
-left-len i = rw (i .of .left-len)
-
-right-len : {t : List Node} {x : Join} {v : ℕ} → JoinIn t x v → lengthOver (x .right) (x .«right_len») ≡ sideLen t (x .right)
-unfolding sideLen
-right-len i = rw (i .of .right-len)
 
 -- A join is as long as its sides.
 join-fits : {ls os : List ℕ} {t : List Node} {x : Join} {v : ℕ} → Lists ls os t → JoinIn t x v
@@ -64,7 +53,7 @@ between {x = x} {v} {b} s e f g d k =
     record {
       low-is = omega arith;
       high-is = omega arith;
-      some = omega (arith, sides, less, left-len i, right-len i, i .within, i .of .own-len);
+      some = omega (arith, sides, less, side-length (s .table) (x .left) (i .of .left-len), side-length (s .table) (x .right) (i .of .right-len), i .within, i .of .own-len);
       short = omega (arith, less, r .short, i .within, i .of .own-len);
       within = omega (arith, less);
     }
@@ -74,8 +63,8 @@ pub split-in : {x : Join} {v : ℕ} {b : Bool} {low high : ℕ} → Between x v 
 unfolding splitSum leftValue
 split-in {x} {v} {b} {low} {high} w a h k e t i = record {
   of = i;
-  left = rw (e, ← left-len i) (left-within b (w .high-is));
-  right = rw (← right-len i) (right-within b (i .above) (w .low-is) (w .high-is));
+  left = rw (e, side-length t (x .left) (i .of .left-len)) (left-within b (w .high-is));
+  right = rw (side-length t (x .right) (i .of .right-len)) (right-within b (i .above) (w .low-is) (w .high-is));
 }
   where
     left-within : (b : Bool) → high ≡ min (splitSum v b) (lengthOver (x .left) (x .«left_len»))
@@ -111,9 +100,9 @@ module _ {t : List Node} {x : Join} {v : ℕ} (i : JoinIn t x v) where
       → splits (splitSum v b) (sideLen t (x .left)) (sideLen t (x .right)) ≡ range low (high + 1 - low)
   unfolding splits
   splits-are {b} {low} {high} w =
-      let e : splitSum v b - sideLen t (x .right) ≡ low = omega (arith, w .low-is, right-len i) in
+      let e : splitSum v b - sideLen t (x .right) ≡ low = omega (arith, w .low-is, side-length t (x .right) (i .of .right-len)) in
       let f : suc (min (splitSum v b) (sideLen t (x .left))) - (splitSum v b - sideLen t (x .right)) ≡ high + 1 - low
-      = omega (arith, w .low-is, w .high-is, left-len i, right-len i) in
+      = omega (arith, w .low-is, w .high-is, side-length t (x .left) (i .of .left-len), side-length t (x .right) (i .of .right-len)) in
       range-same e f
 
   only-same : (a : ℕ) → a ≤ v - 1 → onlyIfClause t (x .node) (at t (x .node)) (x .left) (x .right) v a ≡ splitClause t x v true a
@@ -140,14 +129,14 @@ module _ {ls os : List ℕ} {x : Join} {v : ℕ} where
   unfolding each range
   none-yet b low =
       let e : 0 ≡ low - low = omega arith in
-      does-same (λ t l i u. ap (λ (k : ℕ). each (writeClause t) (map {B = Clause} (splitClause t x v b) (range low k)) u) e) does-nothing
+      does-same (λ t u l i. ap (λ (k : ℕ). each (writeClause t) (map {B = Clause} (splitClause t x v b) (range low k)) u) e) does-none
 
   pub one-more : {b : Bool} {low high : ℕ} (a : ℕ) {j : ℕ} {m n p : Memory} → Between x v b low high → low ≤ a → a ≤ high → j ≡ leftValue a b
       → Does ls os (λ t. JoinIn t x v) (splitsTo x v b low a) m n
       → Does ls os (λ t. ClauseIn t x v j (v - a) b) (λ t u. writeClause t (clauseOf t x v j (v - a) b) u) n p
       → Does ls os (λ t. JoinIn t x v) (splitsTo x v b low (a + 1)) m p
   unfolding each
-  one-more {b} {low} a {j} w h k e c d = does-same (λ t l i u. one t u) (does-then (λ t i. i) (split-in w a h k e) c d)
+  one-more {b} {low} a {j} w h k e c d = does-same (λ t u l i. one t u) (does-then c (does-under (λ t l i. split-in w a h k e t i) d))
     where
       one : (t : List Node) (u : State)
           → writeClause t (clauseOf t x v j (v - a) b) (splitsTo x v b low a t u) ≡ splitsTo x v b low (a + 1) t u
@@ -157,7 +146,7 @@ module _ {ls os : List ℕ} {x : Join} {v : ℕ} where
           rw (
             e,
             f,
-            range-more low (a - low),
+            range-snoc low (a - low),
             g,
             map-append (splitClause t x v b) (range low (a - low)) (a ∷ []),
             each-append (writeClause t) (map {B = Clause} (splitClause t x v b) (range low (a - low))) (splitClause t x v b a ∷ []) u,
@@ -167,5 +156,5 @@ module _ {ls os : List ℕ} {x : Join} {v : ℕ} where
       → Does ls os (λ t. JoinIn t x v) (splitsTo x v b low a) m n
       → Does ls os (λ t. JoinIn t x v) (λ t u. each (writeClause t) (clausesOf t (request (x .node) v (direction b))) u) m n
   all-done {b} {low} {high} a w e d =
-      does-same (λ t l i u. ap (λ (ks : List Clause). each (writeClause t) ks u)
+      does-same (λ t u l i. ap (λ (ks : List Clause). each (writeClause t) ks u)
       (ap (λ (k : ℕ). map {B = Clause} (splitClause t x v b) (range low (k - low))) e ∙ sym (clauses-are i b w))) d

@@ -1,8 +1,9 @@
 -- `clauses::put_clause` meets its contract: nothing where the log is full, else the records of the clause.
 use borrow.Author.Needs.{needs}
 use mathlib.Core.Path.{refl, _∙_}
+use Rattle.define.proofs.Does.{does-full}
 use Rattle.clauses.specs.Joins.{ClauseIn, clauseOf}
-use Rattle.clauses.proofs.Standing.{does-over, does-write, firsts-of}
+use Rattle.clauses.proofs.Standing.{write-grows, does-write, firsts-of}
 use Rattle.clauses.proofs.Joins.{clause-puts, this-read, side-there, left-in, right-in}
 use Rattle.clauses.proofs.put_clause.Statement.{statement}
 use Rattle.clauses.proofs.put_clause.Tie as tie
@@ -10,7 +11,7 @@ use Rattle.clauses.proofs.put_clause.Tie as tie
 returns : tie.Need-returns
 returns c = λ ls h k.
     let a = c .before .before .before .before .before .args in
-    does-over (λ t. clauseOf t (a .x) (a .value) (a .i) (a .j) (a .only-if)) (c .if1 .taken)
+    does-full (write-grows (λ t. clauseOf t (a .x) (a .value) (a .i) (a .j) (a .only-if))) (c .if1 .taken)
 
 real-definition-requires : tie.Need-real-definition-requires
 real-definition-requires c κs = search needs

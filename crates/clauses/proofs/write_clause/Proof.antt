@@ -2,7 +2,8 @@
 use mathlib.Core.Path.{_∙_}
 use mathlib.Core.Bool.{not}
 use Rattle.define.specs.Tables.{direction}
-use Rattle.clauses.proofs.Standing.{shown-to, sizes-kept}
+use Rattle.define.proofs.Does.{shown-to}
+use Rattle.clauses.proofs.Standing.{sizes-kept}
 use Rattle.clauses.proofs.Joins.{left-in, right-in, this-in, clause-reach, does-clause}
 use Rattle.clauses.proofs.write_clause.Statement.{statement}
 use Rattle.clauses.proofs.write_clause.Tie as tie
@@ -10,13 +11,13 @@ use Rattle.clauses.proofs.write_clause.Tie as tie
 look-up-side-requires : tie.Need-look-up-side-requires
 look-up-side-requires c κs =
     let start = c .before .before .before .before .before .before .before .before in
-    (start .pre .0, shown-to (λ t k. left-in k) (start .pre .1))
+    (start .pre .0, shown-to (λ t l k. left-in k) (start .pre .1))
 
 look-up-side-requires-2 : tie.Need-look-up-side-requires-2
 look-up-side-requires-2 c κs =
     let first = c .before .before .before .before .before .before .before .before .before in
     let start = first .before .before .before .before .before .before .before .before .before in
-    (sizes-kept (start .pre .0) (first .look-up-side .kept .1 .0) (first .look-up-side .kept .1 .1 .0), shown-to (λ t k. right-in k) (start .pre .1))
+    (sizes-kept (start .pre .0) (first .look-up-side .kept .1 .0) (first .look-up-side .kept .1 .1 .0), shown-to (λ t l k. right-in k) (start .pre .1))
 
 look-up-real-requires : tie.Need-look-up-real-requires
 look-up-real-requires c κs =
@@ -25,7 +26,7 @@ look-up-real-requires c κs =
     let start = first .before .before .before .before .before .before .before .before .before in (
       sizes-kept (start .pre .0) (second .look-up-side2 .kept .1 .0 ∙ first .look-up-side .kept .1 .0)
           (second .look-up-side2 .kept .1 .1 .0 ∙ first .look-up-side .kept .1 .1 .0),
-      shown-to (λ t k. this-in k) (start .pre .1),
+      shown-to (λ t l k. this-in k) (start .pre .1),
     )
 
 put-clause-requires : tie.Need-put-clause-requires

@@ -7,7 +7,8 @@ use native.Mathlib.Omega.{arith}
 use lib.ListN.{length}
 use Rattle.define.specs.Tables.{memory, Does}
 use Rattle.clauses.specs.Joins.{JoinIn}
-use Rattle.clauses.proofs.Standing.{shown-to, sizes-kept}
+use Rattle.define.proofs.Does.{shown-to}
+use Rattle.clauses.proofs.Standing.{sizes-kept}
 use Rattle.clauses.proofs.Splits.{Between, between, split-in, splitsTo, none-yet, one-more, all-done}
 use Rattle.clauses.proofs.write_clauses.Statement.{statement}
 use Rattle.clauses.proofs.write_clauses.Tie as tie
@@ -73,7 +74,7 @@ write-clause-requires c κs =
     let inv = loop .inv in
     let start = value .before .before .before .before .before .before .before .before .before .before .before .before .before .before .before in (
       sizes-kept (start .pre .0) (inv .5) (inv .6),
-      shown-to (split-in (inv .0) (loop .a) (inv .2) (omega arith) (value .left-value .ensures)) (start .pre .1),
+      shown-to (λ t l i. split-in (inv .0) (loop .a) (inv .2) (omega arith) (value .left-value .ensures) t i) (start .pre .1),
     )
 
 add-a : tie.Need-add-a Inv-loop μ-loop
