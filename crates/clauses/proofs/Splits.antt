@@ -17,7 +17,7 @@ use Rattle.define.proofs.Does.{does-none, does-then, does-under, does-same}
 use Rattle.define.proofs.Sides.{side-length}
 use Rattle.define.proofs.Stores.{range-snoc}
 use Rattle.clauses.specs.declared.Join.{Join}
-use Rattle.clauses.specs.Joins.{JoinIn, ClauseIn, Within, clauseOf, clausePart, lastLiteral, splitSum, leftValue, splitClause}
+use Rattle.clauses.specs.Joins.{JoinIn, ClauseIn, Within, clauseOf, clausePart, lastLiteral, splitSum, leftValue}
 
 -- ---- which splits there are
 
@@ -79,6 +79,10 @@ split-in {x} {v} {b} {low} {high} w a h k e t i = record {
     right-within false g d e = record { above = λ f. absurd (true≢false (sym f)); below = λ _. omega arith; top = omega arith }
 
 -- ---- the loop
+
+-- The clause of the split a.
+abbrev pub splitClause : List Node → Join → ℕ → Bool → ℕ → Clause
+splitClause t x v b a = clauseOf t x v (leftValue a b) (v - a) b
 
 -- The clauses of the splits from low up to below a.
 abbrev pub splitsTo : Join → ℕ → Bool → ℕ → ℕ → List Node → State → State

@@ -71,9 +71,6 @@ unfoldable pub leftValue : ℕ → Bool → ℕ
 leftValue a true = a + 1
 leftValue a false = a
 
-abbrev pub splitClause : List Node → Join → ℕ → Bool → ℕ → Clause
-splitClause t x v b a = clauseOf t x v (leftValue a b) (v - a) b
-
 -- ---- bounds, where the nodes are not lent
 
 -- The a-th value of a side over a node of k values.

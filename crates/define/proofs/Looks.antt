@@ -76,7 +76,7 @@ module _ {c : ℕ} {t : List Node} {m : Memory} {s : State} (ex : Exact c t m s)
       by (yes i) = i
       by (no i) = absurd (h (ex .firsts k used ∙ from-missing (s .stored) k i))
 
-  pub not-there : getD (m .firsts) (slot k) 0 ≡ 0 → ¬ List·Memᴰ k (keys s)
+  not-there : getD (m .firsts) (slot k) 0 ≡ 0 → ¬ List·Memᴰ k (keys s)
   not-there h i = omega (arith, h, ex .firsts k used, ex .from-one k i)
 
 -- ---- the code of a lookup

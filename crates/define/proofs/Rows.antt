@@ -13,7 +13,7 @@ use Rattle.define.specs.Stores.{outputIn}
 
 -- ---- values of a range
 
-getD-range : (g : ℕ → ℕ) (s n i : ℕ) → i < n → getD (map g (range s n)) i 0 ≡ g (s + i)
+pub getD-range : (g : ℕ → ℕ) (s n i : ℕ) → i < n → getD (map g (range s n)) i 0 ≡ g (s + i)
 unfolding range
 getD-range g s zero i h = absurd (omega arith)
 getD-range g s (suc n) zero h = let e : s + 0 ≡ s = omega arith in rw e

@@ -1,24 +1,21 @@
--- The lists of the nodes with one more: the rows below stand, the new node fits, and each node is under one side at most.
-use mathlib.Core.Path.{_≡_, refl, sym, _∙_, ap}
-use mathlib.Core.Bool.{Bool, true, false, _||_}
-use mathlib.Core.Logic.{_≢_, _⊎_, inl, inr, ⊎-elim}
+-- The lists of the nodes with one more: the rows below stand, and the new node fits.
+use mathlib.Core.Path.{_≡_, _∙_}
+use mathlib.Core.Bool.{false}
+use mathlib.Core.Logic.{_≢_}
 use mathlib.Core.List.{List, [], _∷_, _++_}
 use Prim.Native.Nat.{ℕ, _+_, _*_, _^_, _≤_, _<_}
 use native.Mathlib.Omega.{arith}
-use borrow.Author.Tests.{eq-eqb}
-use lib.Dec.{eqb}
 use lib.ListN.{length, set, take, length-set}
 use lib.Seq.{paste, take-set-le, take-all, length-paste}
-use Rattle.totdb.specs.Nodes.{Node, leaf, join, at, len, leaves, output, outputs, range, taken, isOver}
+use Rattle.totdb.specs.Nodes.{Node, leaf, join, at, len, leaves, output, outputs, range, taken}
 use Rattle.totdb.specs.declared.Side.{Side}
 use Rattle.cert.proofs.Apart.{Fit}
-use Rattle.cert.proofs.Distinct.{true≢false}
-use Rattle.cert.proofs.Tables.{at-snoc, length-snoc, sized-snoc, old-or-new, over-left}
-use Rattle.define.specs.Tables.{Row, SideOf, left-of, right-of, Lists}
+use Rattle.cert.proofs.Tables.{at-snoc, length-snoc, sized-snoc}
+use Rattle.define.specs.Tables.{Row, Lists}
 use Rattle.nodes.specs.Copied.{literalsFrom}
 use Rattle.nodes.proofs.Copying.{length-from}
-use Rattle.nodes.proofs.Having.{one-of}
 use Rattle.nodes.proofs.Parts.{part-kept, paste-below, paste-part, set-part, from-outputs}
+use Rattle.nodes.proofs.Sides.{Once, once-leaf, once-join}
 
 -- ---- rows
 
@@ -33,10 +30,6 @@ row-kept ls os ls′ os′ q n x same same′ h r =
       low = r .low;
     }
 
--- Each node is under one side at most.
-unfoldable Once : List Node → Type 0
-Once t = (s u : Side) → SideOf t s → SideOf t u → s .node ≡ u .node → s ≡ u
-
 lists-snoc : (ls os ls′ os′ : List ℕ) (t : List Node) (a : Node) → Lists ls os t → length t < 319 → length ls′ ≡ length ls
     → length os′ ≡ length os → take (64 * length t) ls′ ≡ take (64 * length t) ls → take (64 * length t) os′ ≡ take (64 * length t) os
     → Row ls′ os′ (length t) a → Fit t (length t) a → Once (t ++ (a ∷ [])) → Lists ls′ os′ (t ++ (a ∷ []))
@@ -50,59 +43,6 @@ lists-snoc ls os ls′ os′ t a old h size size′ same same′ here fit once =
   sized = sized-snoc t a (old .sized) fit;
   once = once;
 }
-
--- ---- sides of the longer table
-
-taken-of : (t : List Node) (s : Side) → SideOf t s → taken t (s .node) ≡ true
-unfolding taken
-taken-of t s (left-of n ls o r h e) = one-of (isOver (s .node)) t n (ap (isOver (s .node)) e ∙ over-left ls o s r) h
-taken-of t s (right-of n ls o l h e) = one-of (isOver (s .node)) t n (ap (isOver (s .node)) e ∙ over) h
-  where
-    by : (b : Bool) → (b || true) ≡ true
-    by true = refl
-    by false = refl
-
-    over : isOver (s .node) (join ls o l s) ≡ true
-    over = unfold isOver in rw (eq-eqb (s .node) (s .node) refl) (by (eqb (l .node) (s .node)))
-
-side-leaf : (t : List Node) (l : ℕ) (s : Side) → SideOf (t ++ (leaf l ∷ [])) s → SideOf t s
-side-leaf t l s (left-of n ls o r h e) =
-    ⊎-elim (λ i. left-of n ls o r (i .0) (i .1)) (λ i. absurd (let p = i .1 in let z : _≡_ {A = ℕ} 0 1 = cc in omega arith))
-    (old-or-new t (leaf l) n (join ls o s r) h e)
-side-leaf t l s (right-of n ls o r h e) =
-    ⊎-elim (λ i. right-of n ls o r (i .0) (i .1)) (λ i. absurd (let p = i .1 in let z : _≡_ {A = ℕ} 0 1 = cc in omega arith))
-    (old-or-new t (leaf l) n (join ls o r s) h e)
-
-side-join : (t : List Node) (m : List ℕ) (v : ℕ) (a b s : Side) → SideOf (t ++ (join m v a b ∷ [])) s → SideOf t s ⊎ ((s ≡ a) ⊎ (s ≡ b))
-side-join t m v a b s (left-of n ls o r h e) =
-    ⊎-elim (λ i. inl (left-of n ls o r (i .0) (i .1))) (λ i. let p = i .1 in let z : s ≡ a = cc in inr (inl z))
-    (old-or-new t (join m v a b) n (join ls o s r) h e)
-side-join t m v a b s (right-of n ls o l h e) =
-    ⊎-elim (λ i. inl (right-of n ls o l (i .0) (i .1))) (λ i. let p = i .1 in let z : s ≡ b = cc in inr (inr z))
-    (old-or-new t (join m v a b) n (join ls o l s) h e)
-
-once-leaf : (t : List Node) (l : ℕ) → Once t → Once (t ++ (leaf l ∷ []))
-unfolding Once
-once-leaf t l once s u p q e = once s u (side-leaf t l s p) (side-leaf t l u q) e
-
-once-join : (t : List Node) (m : List ℕ) (v : ℕ) (a b : Side) → a .node ≢ b .node → taken t (a .node) ≡ false → taken t (b .node) ≡ false
-    → Once t → Once (t ++ (join m v a b ∷ []))
-unfolding Once
-once-join t m v a b apart free free′ once s u p q e = go (side-join t m v a b s p) (side-join t m v a b u q)
-  where
-    clash : (x y : Side) → SideOf t x → x .node ≡ y .node → taken t (y .node) ≡ false → ⊥
-    clash x y i k f = true≢false (sym (taken-of t x i) ∙ ap (taken t) k ∙ f)
-
-    go : SideOf t s ⊎ ((s ≡ a) ⊎ (s ≡ b)) → SideOf t u ⊎ ((u ≡ a) ⊎ (u ≡ b)) → s ≡ u
-    go (inl i) (inl j) = once s u i j e
-    go (inl i) (inr (inl j)) = absurd (clash s a i (e ∙ ap (λ (x : Side). x .node) j) free)
-    go (inl i) (inr (inr j)) = absurd (clash s b i (e ∙ ap (λ (x : Side). x .node) j) free′)
-    go (inr (inl i)) (inl j) = absurd (clash u a j (sym e ∙ ap (λ (x : Side). x .node) i) free)
-    go (inr (inr i)) (inl j) = absurd (clash u b j (sym e ∙ ap (λ (x : Side). x .node) i) free′)
-    go (inr (inl i)) (inr (inl j)) = i ∙ sym j
-    go (inr (inr i)) (inr (inr j)) = i ∙ sym j
-    go (inr (inl i)) (inr (inr j)) = absurd (apart (sym (ap (λ (x : Side). x .node) i) ∙ e ∙ ap (λ (x : Side). x .node) j))
-    go (inr (inr i)) (inr (inl j)) = absurd (apart (sym (ap (λ (x : Side). x .node) j) ∙ sym e ∙ ap (λ (x : Side). x .node) i))
 
 -- ---- a leaf
 

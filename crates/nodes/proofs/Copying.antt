@@ -1,5 +1,5 @@
 -- Rows copied: one turn of a loop, and what a row holds.
-use mathlib.Core.Path.{_≡_, refl, _∙_}
+use mathlib.Core.Path.{_≡_, refl, sym, _∙_}
 use mathlib.Core.Bool.{Bool, true, false, cond}
 use mathlib.Core.List.{List}
 use Prim.Native.Nat.{ℕ, zero, suc, _+_, _*_, _≤_, _<_}
@@ -11,6 +11,7 @@ use lib.Seq.{paste, paste-suc}
 use Rattle.totdb.specs.Nodes.{lengthOver, plainOr, range}
 use Rattle.totdb.specs.declared.Side.{Side}
 use Rattle.cert.proofs.Apart.{length-range}
+use Rattle.define.proofs.Rows.{getD-range}
 use Rattle.nodes.specs.Copied.{literalsIn, literalsFrom}
 
 -- ---- a loop that copies
@@ -29,20 +30,18 @@ unfolding literalsFrom
 length-from v n = length-map (range v n) (λ (u : ℕ). 2 * u) ∙ length-range v n
 
 pub from-at : (v n i : ℕ) → i < n → 2 * (v + i) ≡ getD (literalsFrom v n) i 0
-unfolding literalsFrom range
-from-at v zero i h = absurd (omega arith)
-from-at v (suc n) zero h = omega arith
-from-at v (suc n) (suc i) h = let e = from-at (suc v) n i (omega arith) in omega arith
+unfolding literalsFrom
+from-at v n i h = sym (getD-range (λ (u : ℕ). 2 * u) v n i h)
 
 -- ---- the literals of a side
 
-pub plain-cond : (f k : ℕ) (ls os : List ℕ) → cond (plainOr f k true false) ls os ≡ plainOr f k ls os
+plain-cond : (f k : ℕ) (ls os : List ℕ) → cond (plainOr f k true false) ls os ≡ plainOr f k ls os
 unfolding plainOr
 plain-cond zero zero ls os = refl
 plain-cond zero (suc k) ls os = refl
 plain-cond (suc f) k ls os = refl
 
-pub length-plainOr : (f k n : ℕ) (ls os : List ℕ) → length ls ≡ n → length os ≡ n → length (plainOr f k ls os) ≡ n
+length-plainOr : (f k n : ℕ) (ls os : List ℕ) → length ls ≡ n → length os ≡ n → length (plainOr f k ls os) ≡ n
 unfolding plainOr
 length-plainOr zero zero n ls os p q = p
 length-plainOr zero (suc k) n ls os p q = q

@@ -4,26 +4,21 @@ use mathlib.Core.List.{List, [], _∷_, _++_}
 use Prim.Native.Nat.{ℕ, zero, suc, _+_, _-_, _*_, _≤_, _<_}
 use native.Mathlib.Omega.{arith}
 use lib.ListN.{length, getD, take, drop, length-append}
-use lib.Seq.{paste, take-paste, take-all, take-take, drop-drop, sets}
+use lib.Seq.{paste, take-paste, take-all, sets}
 use Rattle.totdb.specs.Nodes.{Node, join, at, len, leaves, outputs, limited, lengthOver, plainOr, sideLen, sideLeaves, sideOutputs, joined}
 use Rattle.totdb.specs.declared.Side.{Side}
 use Rattle.cert.proofs.Apart.{Fit}
+use Rattle.cert.proofs.Tables.{side-some}
 use Rattle.define.specs.Tables.{Row, Lists}
+use Rattle.define.proofs.Rows.{part-at}
 use Rattle.request.specs.Rows.{Rows}
 use Rattle.nodes.specs.Added.{Joinable}
 use Rattle.nodes.specs.Copied.{literalsIn, literalsFrom, joinRow, Small}
 use Rattle.nodes.proofs.Adding.{lists-join}
 use Rattle.nodes.proofs.Copying.{length-in}
-use Rattle.nodes.proofs.Parts.{part-kept, part-outputs}
 use Rattle.nodes.proofs.Placing.{len-in, rows-join}
 
 -- ---- one side
-
-window-part : (ls os : List ℕ) (n f m : ℕ) (x : Node) → Row ls os n x → f + m ≤ len x → take m (drop (64 * n + f) os) ≡ outputs x f m
-window-part ls os n f m x r h =
-    ap (take m) (sym (drop-drop f (64 * n) os))
-    ∙ sym (part-kept (len x) (drop (64 * n) os) (take (len x) (drop (64 * n) os)) (take-take (len x) (len x) (drop (64 * n) os) (omega arith)) f m h)
-    ∙ ap (λ (l : List ℕ). take m (drop f l)) (r .output-list) ∙ part-outputs x f m (len x) h
 
 side-part : (ls os : List ℕ) (n f k : ℕ) (x : Node) → Row ls os n x → f + limited k (len x - f) ≤ len x
     → take (limited k (len x - f)) (drop (64 * n + f) (plainOr f k ls os)) ≡ plainOr f k (leaves x) (outputs x f (limited k (len x - f)))
@@ -32,21 +27,13 @@ side-part ls os n zero zero x r h =
     let a : len x - 0 ≡ len x = omega arith in
     let b : 64 * n + 0 ≡ 64 * n = omega arith in
     rw (a, b) (r .leaf-list)
-side-part ls os n zero (suc k) x r h = window-part ls os n zero (suc k) x r h
-side-part ls os n (suc f) k x r h = window-part ls os n (suc f) (limited k (len x - suc f)) x r h
+side-part ls os n zero (suc k) x r h = part-at r zero (suc k) h
+side-part ls os n (suc f) k x r h = part-at r (suc f) (limited k (len x - suc f)) h
 
 limit-within : (k m : ℕ) → k ≤ limited k m
 unfolding limited
 limit-within zero m = omega arith
 limit-within (suc k) m = omega arith
-
-side-some : (t : List Node) (s : Side) → s .offset < len (at t (s .node)) → 1 ≤ sideLen t s
-unfolding sideLen
-side-some t s h = by (s .limit)
-  where
-    by : (k : ℕ) → 1 ≤ limited k (len (at t (s .node)) - s .offset)
-    by zero = unfold limited in omega arith
-    by (suc k) = unfold limited in omega arith
 
 -- A side of the table, by the length that the table has of its node.
 pub record Side-in (ns ls os : List ℕ) (t : List Node) (s : Side) : Type 0 where

@@ -1,4 +1,5 @@
 -- What the code of the tables rests on.
+pub mod Sides
 pub mod Adding
 pub mod Copying
 pub mod Having
