@@ -1,34 +1,32 @@
 -- The end of a command: accepted with all that it wrote, or refused with the log as it was.
 use mathlib.Core.Path.{_≡_, refl, sym, _∙_, ap, subst}
-use mathlib.Core.Bool.{true, false}
-use mathlib.Core.List.{List, [], _++_}
-use Prim.Native.Nat.{ℕ, _-_, _≤_}
+use mathlib.Core.List.{List, _++_}
+use Prim.Native.Nat.{ℕ, _-_, _≤_, _<_}
 use native.Mathlib.Omega.{arith}
 use lib.ListN.{length, replicate}
 use Rattle.record.specs.Record.{Record, bytes}
-use Rattle.record.specs.Writing.{Buffer, buffer, settled}
+use Rattle.record.specs.Writing.{Buffer, buffer, settled, filled}
 use Rattle.record.proofs.Writing.{filled-length, settled-not}
-use Rattle.totdb.specs.Nodes.{Node, leafCount}
+use Rattle.totdb.specs.Nodes.{Node}
 use Rattle.cert.specs.State.{State, Head}
-use Rattle.define.specs.Tables.{Lists, Memory, memory, Exact, Over, StandsFor, exact, over}
+use Rattle.define.specs.Tables.{memory, Exact, StandsFor, exact, over}
 use Rattle.define.specs.declared.Out.{Out}
-use Rattle.request.specs.Rows.{Rows}
 use Rattle.player.specs.Player.{firstNo, questions, act}
 use Rattle.player.specs.declared.Command.{Command}
-use Rattle.player.proofs.Formed.{Formed, formed-act, all-offered}
+use Rattle.player.proofs.Formed.{formed-act, all-offered}
 use Rattle.player.proofs.Verdicts.{play-stops, play-goes, play-over}
 use Rattle.commands.specs.Standing.{Standing, Reported, Played, went, stopped, endedAs}
 use Rattle.commands.specs.declared.Ended.{Ended}
 use Rattle.commands.specs.declared.Totals.{Totals}
 use Rattle.commands.proofs.Room.{exact-fits, exact-filled, over-lost, over-settled}
 
-module _ (h : Head) (c : ℕ) (ns ls os held firsts steps log : List ℕ) (z : Totals) (s : State)
+module _ {h : Head} {c : ℕ} {ns ls os held firsts steps log : List ℕ} {z : Totals} {s : State}
     (st : Standing h c ns ls os (memory held firsts steps log (z .out)) z s) where
   pub fits : length (bytes (s .log)) ≤ c
-  fits = exact-fits c (s .nodes) (memory held firsts steps log (z .out)) s (st .exact) (st .room)
+  fits = exact-fits (st .exact) (st .room)
 
-  filled-now : buffer log (z .out .cursor) ≡ Rattle.record.specs.Writing.filled c (bytes (s .log))
-  filled-now = exact-filled c (s .nodes) (memory held firsts steps log (z .out)) s (st .exact) (st .room)
+  filled-now : buffer log (z .out .cursor) ≡ filled c (bytes (s .log))
+  filled-now = exact-filled (st .exact) (st .room)
 
   pub used : z .out .cursor .at ≡ length (bytes (s .log))
   used = ap (λ (b : Buffer). b .cursor .at) filled-now
@@ -43,7 +41,7 @@ module _ (h : Head) (c : ℕ) (ns ls os held firsts steps log : List ℕ) (z : T
   }
 
   -- One of questions 6 to 12 is answered no, and nothing is changed.
-  pub refused-early : (k : Command) (n : ℕ) → Prim.Native.Nat._<_ 0 n → firstNo (questions h (s .nodes) k) ≡ n → (e : Ended) → e .number ≡ n → e .totals ≡ z
+  pub refused-early : (k : Command) (n : ℕ) → 0 < n → firstNo (questions h (s .nodes) k) ≡ n → (e : Ended) → e .number ≡ n → e .totals ≡ z
       → Played h c k s ns ls os held firsts steps log e
   refused-early k n p q e a b = stopped n (play-stops h c k s n p q) a (subst (λ (y : Totals). Reported c log y s) (sym b) reported)
 
@@ -61,7 +59,7 @@ module _ (h : Head) (c : ℕ) (ns ls os held firsts steps log : List ℕ) (z : T
             let a : e ≡ record { number = 0; totals = record { out = o; nodes = z .nodes; leaves = z .leaves; variable = z .variable } } = is ∙ rw room in
             let l : log″ ≡ log′ = end ∙ ap (λ (b : Buffer). b .log) (sym (settled-not log′ (o .cursor) (z .out .cursor .at) room)) in
             let g = play-goes h c k s asked (all-offered h k s asked (st .formed))
-            (exact-fits c (s .nodes) (memory held′ firsts′ steps′ log′ o) (act k s) x room) in
+            (exact-fits x room) in
             rw (a, l) (went (act k s) g refl (record {
               formed = formed-act h k s asked (st .formed);
               lists = rw same-nodes (st .lists);
@@ -74,11 +72,10 @@ module _ (h : Head) (c : ℕ) (ns ls os held firsts steps log : List ℕ) (z : T
             }))
         by (over full x) =
             let a : e ≡ record { number = 14; totals = z } = is ∙ rw full in
-            let m : Memory = memory held′ firsts′ steps′ log′ o in
-            let g = play-over h c k s asked (all-offered h k s asked (st .formed)) (over-lost c m (act k s) x full) in
+            let g = play-over h c k s asked (all-offered h k s asked (st .formed)) (over-lost x full) in
             let q : log″ ≡ bytes (s .log) ++ replicate (c - length (bytes (s .log))) 0 =
             end ∙ ap (λ (p : ℕ). settled p (buffer log′ (o .cursor)) .log) used
-            ∙ ap (λ (b : Buffer). b .log) (over-settled c m s (act k s) fits more grown x full) in
+            ∙ ap (λ (b : Buffer). b .log) (over-settled s fits more grown x full) in
             rw a (stopped 14 g refl (record { whole = q; used = used; step = st .exact .step; clauses = st .exact .clauses; nodes = st .nodes }))
 
   -- The next byte goes into the log, or right behind it.

@@ -2,11 +2,10 @@
 use mathlib.Core.Path.{_≡_, refl, sym, _∙_, ap, subst}
 use mathlib.Core.Bool.{true, false}
 use mathlib.Core.List.{List, [], _∷_, _++_}
-use Prim.Native.Nat.{ℕ, _+_, _-_, _*_, _≤_, _<_, _^_}
+use Prim.Native.Nat.{ℕ, _+_, _≤_, _<_}
 use native.Mathlib.Omega.{arith}
 use lib.ListN.{length, length-append}
 use Rattle.pb.specs.Sum.{variable}
-use Rattle.record.specs.Record.{bytes}
 use Rattle.totdb.specs.Nodes.{Node, leaf, joined, at, leaves, len, known, taken, leafCount, sideLen, sideLeaves}
 use Rattle.totdb.specs.declared.Side.{Side}
 use Rattle.cert.specs.State.{State, Head}
@@ -17,6 +16,7 @@ use Rattle.request.specs.Rows.{Rows}
 use Rattle.player.specs.Player.{firstNo, questions, act, make}
 use Rattle.player.specs.declared.Command.{Command}
 use Rattle.nodes.specs.Added.{Joinable}
+use Rattle.nodes.proofs.Sides.{SideIs, leaf-side, join-side}
 use Rattle.player.proofs.Formed.{formed-act, all-offered, head-low}
 use Rattle.player.proofs.Sound.{JoinFits, join-fits, sideLeaves-length}
 use Rattle.player.proofs.Tree.{few-nodes, few-variables, leafCount-leaf, leafCount-join, treed-act}
@@ -25,9 +25,9 @@ use Rattle.commands.specs.Standing.{Standing, Played, went}
 use Rattle.commands.specs.declared.Ended.{Ended}
 use Rattle.commands.specs.declared.Totals.{Totals}
 use Rattle.commands.proofs.Ends.{fits}
-use Rattle.commands.proofs.Made.{SideIs, is-left, is-right, exact-make}
+use Rattle.commands.proofs.Made.{exact-make}
 
-module _ (h : Head) (c : ℕ) (ns ls os held firsts steps log : List ℕ) (z : Totals) (s : State)
+module _ {h : Head} {c : ℕ} {ns ls os held firsts steps log : List ℕ} {z : Totals} {s : State}
     (st : Standing h c ns ls os (memory held firsts steps log (z .out)) z s) where
   few : length (s .nodes) < 319
   few = omega (arith, few-nodes (st .formed .treed))
@@ -46,7 +46,7 @@ module _ (h : Head) (c : ℕ) (ns ls os held firsts steps log : List ℕ) (z : T
       room = st .room;
       exact =
           unfold make in
-          exact-make c (s .nodes) a i (memory held firsts steps log (z .out)) s (st .lists .sized) few (st .exact) (st .formed .counted .keys-in) free;
+          exact-make a i (st .lists) few (st .exact) (st .formed .counted .keys-in) free;
       nodes = unfold make in nodes;
       leaves = unfold make in leaves;
       variable = unfold make in next;
@@ -58,7 +58,7 @@ module _ (h : Head) (c : ℕ) (ns ls os held firsts steps log : List ℕ) (z : T
     pub makes : Played h c k s ns′ ls′ os′ held firsts steps log e
     makes =
         went (act k s)
-        (play-goes h c k s asked (all-offered h k s asked (st .formed)) (rw same-log (fits h c ns ls os held firsts steps log z s st))) number
+        (play-goes h c k s asked (all-offered h k s asked (st .formed)) (rw same-log (fits st))) number
         (subst (λ (o : Out). Standing h c ns′ ls′ os′ (memory held firsts steps log o) (e .totals) (act k s)) (sym out)
         (subst (λ (u : State). Standing h c ns′ ls′ os′ (memory held firsts steps log (z .out)) (e .totals) u) (sym is) after))
 
@@ -69,7 +69,7 @@ module _ (h : Head) (c : ℕ) (ns ls os held firsts steps log : List ℕ) (z : T
       let same : act (Command.Leaf l) s ≡ s = unfold act in rw (there, act) in
       went s
       (play-goes h c (Command.Leaf l) s asked (all-offered h (Command.Leaf l) s asked (st .formed))
-      (rw same (fits h c ns ls os held firsts steps log z s st)) ∙ ap Rattle.player.specs.Player.accepted same) a
+      (rw same (fits st)) ∙ ap Rattle.player.specs.Player.accepted same) a
       (rw b st)
 
   pub leaf-made : (l : ℕ) → firstNo (questions h (s .nodes) (Command.Leaf l)) ≡ 0 → known (s .nodes) l ≡ false → (ns′ ls′ os′ : List ℕ)
@@ -77,13 +77,9 @@ module _ (h : Head) (c : ℕ) (ns ls os held firsts steps log : List ℕ) (z : T
       → e .totals .nodes ≡ z .nodes + 1 → e .totals .leaves ≡ z .leaves + 1 → e .totals .variable ≡ z .variable
       → Played h c (Command.Leaf l) s ns′ ls′ os′ held firsts steps log e
   leaf-made l asked new ns′ ls′ os′ rows lists e a b p q r =
-      makes (Command.Leaf l) asked (leaf l) 0 (unfold act in rw (new, act)) none ns′ ls′ os′ rows lists e a b
+      makes (Command.Leaf l) asked (leaf l) 0 (unfold act in rw (new, act)) (λ u i. absurd (leaf-side i)) ns′ ls′ os′ rows lists e a b
       (omega (arith, p, st .nodes, length-snoc (s .nodes) (leaf l))) (omega (arith, q, st .leaves, leafCount-leaf (s .nodes) l))
       (omega (arith, r, st .variable))
-    where
-      none : (u : Side) → SideIs (leaf l) u → (u .node < length (s .nodes)) × (taken (s .nodes) (u .node) ≡ false)
-      none u (is-left ls o x y) = absurd (let z : _≡_ {A = ℕ} 0 1 = cc in omega arith)
-      none u (is-right ls o x y) = absurd (let z : _≡_ {A = ℕ} 0 1 = cc in omega arith)
 
   pub join-made : (l r : Side) → firstNo (questions h (s .nodes) (Command.Join l r)) ≡ 0 → (ns′ ls′ os′ : List ℕ)
       → Rows ns′ (s .nodes ++ (joined (s .nodes) (z .variable) l r ∷ [])) → Lists ls′ os′ (s .nodes ++ (joined (s .nodes) (z .variable) l r ∷ []))
@@ -108,11 +104,10 @@ module _ (h : Head) (c : ℕ) (ns ls os held firsts steps log : List ℕ) (z : T
       Free d = (d .node < length (s .nodes)) × (taken (s .nodes) (d .node) ≡ false)
 
       sides : (u : Side) → SideIs (joined (s .nodes) (z .variable) l r) u → Free u
-      sides u (is-left ms o y w) = let g : l ≡ u = unfold joined in cc in subst Free g (f .left, f .left-free)
-      sides u (is-right ms o y w) = let g : r ≡ u = unfold joined in cc in subst Free g (f .right, f .right-free)
+      sides = unfold joined in join-side Free (f .left, f .left-free) (f .right, f .right-free)
 
 -- Two sides that pass their questions may be joined, and their join has 64 outputs at most.
-module _ (h : Head) (c : ℕ) (ns ls os held firsts steps log : List ℕ) (z : Totals) (s : State)
+module _ {h : Head} {c : ℕ} {ns ls os held firsts steps log : List ℕ} {z : Totals} {s : State}
     (st : Standing h c ns ls os (memory held firsts steps log (z .out)) z s) (l r : Side)
     (asked : firstNo (questions h (s .nodes) (Command.Join l r)) ≡ 0) where
   fit : JoinFits (s .nodes) l r

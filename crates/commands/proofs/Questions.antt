@@ -1,16 +1,17 @@
 -- The first question answered no, of a leaf, a join and a request, one by one.
 use mathlib.Core.Path.{_≡_, refl, sym, _∙_, ap}
-use mathlib.Core.Bool.{Bool, true, false, _&&_, _||_, not as notb}
+use mathlib.Core.Bool.{Bool, true, false}
 use mathlib.Core.List.{List}
-use Prim.Native.Nat.{ℕ, _+_, _-_, _*_, _≤_, _<_}
+use Prim.Native.Nat.{ℕ, _-_, _*_, _≤_, _<_}
 use native.Mathlib.Omega.{arith}
 use borrow.Author.Tests.{lt-ltb, le-ltb, le-leb, lt-leb, eq-eqb, ne-eqb}
 use lib.ListN.{length, getD}
 use Rattle.pb.specs.Sum.{variable, neg}
-use Rattle.totdb.specs.Nodes.{Node, leaf, join, at, leaves, len, known, taken, leafCount}
+use Rattle.totdb.specs.Nodes.{Node, at, len, known, taken, leafCount}
 use Rattle.totdb.specs.declared.Side.{Side}
 use Rattle.cert.specs.State.{Head}
-use Rattle.request.specs.Rows.{sideIn, RowOf, Rows}
+use Rattle.request.specs.Rows.{Rows}
+use Rattle.nodes.proofs.Placing.{len-in}
 use Rattle.player.specs.Player.{firstNo, questions, sideFits}
 use Rattle.player.specs.declared.Command.{Command}
 use Rattle.commands.specs.Standing.{fitsOver}
@@ -151,22 +152,10 @@ module _ (s : Side) (n : ℕ) where
       unfolding fitsOver
       fits-part p q = rw (lt-ltb (s .offset) n below, le-leb (s .limit) (n - s .offset) within, eq-eqb (s .offset) 0 p, ne-eqb (s .limit) n q)
 
--- ---- the table
-
--- The length of a node stands in its row.
-pub row-len : (ns : List ℕ) (t : List Node) → Rows ns t → (n : ℕ) → n < length t → getD ns (8 * n) 0 ≡ len (at t n)
-unfolding len leaves
-row-len ns t r n h = by (at t n) (r .row n h)
-  where
-    by : (x : Node) → RowOf ns n x → getD ns (8 * n) 0 ≡ length (leaves x)
-    by (leaf l) q = let k : (getD ns (8 * n) 0 ≡ 1) × (getD ns (8 * n + 7) 0 ≡ 0) = unfold RowOf in q in k .0
-    by (join ls o a b) q =
-        let k : (getD ns (8 * n) 0 ≡ length ls) × (sideIn ns (8 * n + 1) ≡ a) × (sideIn ns (8 * n + 4) ≡ b) × (getD ns (8 * n + 7) 0 ≡ 1) =
-        unfold RowOf in q in
-        k .0
+-- ---- a side of the table
 
 pub side-fits : (ns : List ℕ) (t : List Node) → Rows ns t → (s : Side) → s .node < length t → (b : Bool) → fitsOver s (getD ns (8 * s .node) 0) ≡ b
     → sideFits t s ≡ b
 side-fits ns t r s h b e =
     let over : sideFits t s ≡ fitsOver s (len (at t (s .node))) = unfold sideFits fitsOver in refl in
-    over ∙ ap (fitsOver s) (sym (row-len ns t r (s .node) h)) ∙ e
+    over ∙ ap (fitsOver s) (sym (len-in ns t (s .node) r h)) ∙ e

@@ -1,14 +1,12 @@
 -- The two commands that write: what a request and a close append, and what the tables stand for after a close.
-use mathlib.Core.Path.{_≡_, refl, sym, _∙_, ap, subst}
+use mathlib.Core.Path.{_≡_, refl, sym, _∙_, ap}
 use mathlib.Core.Bool.{Bool, true, false}
 use mathlib.Core.List.{List, [], _∷_, _++_, flatMap, append-nil, append-assoc}
-use Prim.Native.Nat.{ℕ, _+_, _≤_}
+use Prim.Native.Nat.{ℕ}
 use native.Mathlib.Omega.{arith}
-use lib.ListN.{length, take, length-append}
-use Rattle.memo.proofs.Lists.{flatMap-append}
+use lib.ListN.{length, take}
 use Rattle.record.specs.Record.{Record, derivation, clause, deletion, numbers, steps, clauses}
 use Rattle.record.specs.Writing.{buffer, Puts, puts, settled, filled}
-use Rattle.record.proofs.Writing.{after}
 use Rattle.totdb.specs.Nodes.{Node}
 use Rattle.cert.specs.Definitions.{keyRecords}
 use Rattle.cert.specs.Requests.{clauseTokens}
@@ -18,6 +16,8 @@ use Rattle.cert.proofs.Counts.{steps-append}
 use Rattle.cert.proofs.Serving.{clauses-append, serve-in}
 use Rattle.define.specs.Tables.{memory, Exact, StandsFor, exact, over, Shown, Does}
 use Rattle.define.specs.declared.Out.{Out}
+use Rattle.define.proofs.Does.{over-all}
+use Rattle.define.proofs.Written.{written-more}
 use Rattle.request.specs.Rows.{RequestIn, Tables}
 use Rattle.player.specs.Player.{firstNo, questions, act, delete}
 use Rattle.player.specs.declared.Command.{Command}
@@ -36,7 +36,7 @@ grown-more : (s : State) (log : List Record) (rs : List Record) → ((more : Lis
 grown-more s log rs g = (g .0 ++ rs, ap (λ (l : List Record). l ++ rs) (g .1) ∙ append-assoc (s .log) (g .0) rs)
 
 module _ (t : List Node) (sized : Sized t) (n v d : ℕ) (f : RequestFits t n v d) (s : State) where
-  pub request-grows : (more : List Record) × (serve t (requests n v d) s .log ≡ s .log ++ more)
+  request-grows : Grown s (serve t (requests n v d) s)
   unfolding define write hold
   request-grows =
       serve-in t (sized-ok t sized) (Grown s) (λ k u i r. grown-more s (u .log) (keyRecords (stepIn (u .stored)) t k) r)
@@ -60,10 +60,7 @@ module _ (c : ℕ) (held firsts ks log log′ : List ℕ) (o o′ : Out) (s : St
 
   closed-log : buffer log′ (o′ .cursor) ≡ puts (filled c []) (flatMap numbers (delete s .log))
   unfolding delete ss
-  closed-log =
-      let first : Puts (filled c []) (flatMap numbers (s .log)) (buffer log (o .cursor)) = record { is = x .log } in
-      after first (rw is-deletion at wrote) .is
-      ∙ ap (λ (l : List ℕ). puts (filled c []) l) (sym (flatMap-append numbers (s .log) (deletion ss ∷ [])))
+  closed-log = written-more c (s .log) (buffer log (o .cursor)) (x .log) (deletion ss ∷ []) (rw is-deletion at wrote)
 
   closed-steps : steps (delete s .log) ≡ steps (s .log)
   unfolding delete
@@ -78,7 +75,7 @@ module _ (c : ℕ) (held firsts ks log log′ : List ℕ) (o o′ : Out) (s : St
   closed = by (o′ .cursor .full) refl
     where
       by : (b : Bool) → o′ .cursor .full ≡ b → StandsFor c (s .nodes) (memory held firsts ks log′ o′) (delete s)
-      by true e = over e (record { written = delete s .log; rest = []; split = sym (append-nil (delete s .log)); log = closed-log })
+      by true e = over e (over-all closed-log)
       by false e =
           exact e (record {
             small = x .small;
@@ -104,13 +101,13 @@ module _ (c : ℕ) (held firsts ks log log′ : List ℕ) (o o′ : Out) (s : St
 
 -- ---- the commands
 
-module _ (h : Head) (c : ℕ) (ns ls os held firsts ks log : List ℕ) (z : Totals) (s : State)
+module _ {h : Head} {c : ℕ} {ns ls os held firsts ks log : List ℕ} {z : Totals} {s : State}
     (st : Standing h c ns ls os (memory held firsts ks log (z .out)) z s) where
   module _ (n v d : ℕ) (asked : firstNo (questions h (s .nodes) (Command.Request n v d)) ≡ 0) where
     pub fitting : RequestFits (s .nodes) n v d
     fitting = request-fits h (s .nodes) n v d asked
 
-    pub request-in : RequestIn ns (s .nodes) n v
+    request-in : RequestIn ns (s .nodes) n v
     request-in = record { rows = st .rows; there = fitting .there; above = fitting .low; within = fitting .high }
 
     pub request-shown : Shown ls os (λ t. RequestIn ns t n v)
@@ -129,10 +126,10 @@ module _ (h : Head) (c : ℕ) (ns ls os held firsts ks log : List ℕ) (z : Tota
         let t = s .nodes in
         let k = request-keeps t (st .lists .sized) n v d fitting s in
         let g = request-grows t (st .lists .sized) n v d fitting s in
-        ends h c ns ls os held firsts ks log z s st (Command.Request n v d) asked (k .0) (k .1) (g .0) (g .1) held′ firsts′ ks′ log′ o
+        ends st (Command.Request n v d) asked (k .0) (k .1) (g .0) (g .1) held′ firsts′ ks′ log′ o
         (does .does c t s (st .lists) request-in (exact (st .room) (st .exact))) e log″ is end
 
-  pub close-asked : firstNo (questions h (s .nodes) Command.Close) ≡ 0
+  close-asked : firstNo (questions h (s .nodes) Command.Close) ≡ 0
   unfolding questions firstNo
   close-asked = refl
 
@@ -142,6 +139,6 @@ module _ (h : Head) (c : ℕ) (ns ls os held firsts ks log : List ℕ) (z : Tota
       → Played h c Command.Close s ns ls os held firsts ks log″ e
   unfolding act
   close-ends log′ o wrote step stored count e log″ is end =
-      ends h c ns ls os held firsts ks log z s st Command.Close close-asked (unfold delete in refl) (unfold delete in refl)
+      ends st Command.Close close-asked (unfold delete in refl) (unfold delete in refl)
       (deletion (storedSteps (s .nodes) (s .stored)) ∷ []) (unfold delete in refl) held firsts ks log′ o
       (closed c held firsts ks log log′ (z .out) o s (st .exact) wrote step stored count) e log″ is end

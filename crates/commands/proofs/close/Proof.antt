@@ -32,7 +32,7 @@ end-requires : tie.Need-end-requires
 end-requires c κs =
     let a = c .before .before .before .before .before .before .before .before .before .before .before .before .before .before .before .before .before .before .args in
     let r = c .before .before .before .before .before .before .before .before .before .before .before .before .before .before .before .before .before .before .pre in
-    let w : a .t .out .cursor .at ≤ length (a .log .now) = at-within (r .5 .head) (r .5 .capacity) (r .0) (r .1) (r .2) (r .3) (r .4) (a .steps .now) (a .log .now) (a .t) (r .5 .state) (r .5 .standing) in
+    let w : a .t .out .cursor .at ≤ length (a .log .now) = at-within (r .5 .standing) in
     omega (arith, w)
 
 same-length : tie.Need-same-length
@@ -42,7 +42,7 @@ returns : tie.Need-returns
 returns c =
     λ h p ns ls os held firsts s st.
     let a = c .before .before .before .before .before .before .before .before .before .before .before .before .before .before .before .before .before .before .before .before .before .args in
-    close-ends h p ns ls os held firsts (a .steps .now) (a .log .now) (a .t) s st _ _
+    close-ends st _ _
     (after (c .before .before .before .before .before .before .before .before .before .before .before .before .before .before .before .put .ensures) (after (c .before .before .before .before .before .before .before .before .before .before .before .put2 .ensures) (c .before .before .before .before .before .before .put-all .ensures))) refl refl refl _ _ (c .before .before .end .ensures .0) (c .before .before .end .ensures .1)
 
 pub close-spec : {M : Type 1} → statement M

@@ -1,5 +1,5 @@
 -- `commands::end` meets its contract: what was written, or nothing.
-use mathlib.Core.Path.{_≡_, sym, refl, ap}
+use mathlib.Core.Path.{ap}
 use borrow.Author.Needs.{needs}
 use Rattle.record.specs.Writing.{Buffer}
 use Rattle.commands.specs.Standing.{endedAs}

@@ -19,7 +19,7 @@ returns : tie.Need-returns
 returns c =
     λ h p held firsts steps log s st.
     let a = c .before .before .before .before .before .before .args in
-    refused-early h p (a .nodes .now) (a .leaves .now) (a .outputs .now) held firsts steps log (a .t) s st (Command.Join (a .l) (a .r)) (c .before .ask-join .result) (omega (arith, c .if1 .taken))
+    refused-early st (Command.Join (a .l) (a .r)) (c .before .ask-join .result) (omega (arith, c .if1 .taken))
     (sym (c .before .ask-join .ensures h (s .nodes) (st .rows) (sym (st .nodes)))) _ refl refl
 
 add-join-requires : tie.Need-add-join-requires
@@ -28,7 +28,7 @@ add-join-requires c κs =
     let ready = c .before .before .before .before .before .before .before .before .before .pre .ready in
     let st = ready .standing in
     let asked = sym (c .before .before .before .before .ask-join .ensures (ready .head) (ready .state .nodes) (st .rows) (sym (st .nodes))) ∙ c .before .before .before .if1 .left in
-    (ready .state .nodes, joinable _ _ _ _ _ _ _ _ _ _ _ st (a .l) (a .r) asked)
+    (ready .state .nodes, joinable st (a .l) (a .r) asked)
 
 add-t20 : tie.Need-add-t20
 add-t20 c = search needs
@@ -39,9 +39,9 @@ cast-t21 c =
     let ready = c .before .before .before .before .before .before .before .before .before .before .before .before .before .before .before .before .before .before .pre .ready in
     let st = ready .standing in
     let asked = sym (c .before .before .before .before .before .before .before .before .before .before .before .before .before .ask-join .ensures (ready .head) (ready .state .nodes) (st .rows) (sym (st .nodes))) ∙ c .before .before .before .before .before .before .before .before .before .before .before .before .if1 .left in
-    let j = joinable _ _ _ _ _ _ _ _ _ _ _ st (a .l) (a .r) asked in
+    let j = joinable st (a .l) (a .r) asked in
     let e = c .before .before .before .before .before .before .before .before .add-join .ensures (ready .state .nodes) j .0 in
-    let k : c .before .before .before .before .before .before .before .before .add-join .result ≤ 64 = omega (arith, e, joined-short _ _ _ _ _ _ _ _ _ _ _ st (a .l) (a .r) asked (a .t .variable)) in
+    let k : c .before .before .before .before .before .before .before .before .add-join .result ≤ 64 = omega (arith, e, joined-short st (a .l) (a .r) asked (a .t .variable)) in
     omega (arith, k)
 
 add-t22 : tie.Need-add-t22
@@ -50,9 +50,9 @@ add-t22 c =
     let ready = c .before .before .before .before .before .before .before .before .before .before .before .before .before .before .before .before .before .before .before .pre .ready in
     let st = ready .standing in
     let asked = sym (c .before .before .before .before .before .before .before .before .before .before .before .before .before .before .ask-join .ensures (ready .head) (ready .state .nodes) (st .rows) (sym (st .nodes))) ∙ c .before .before .before .before .before .before .before .before .before .before .before .before .before .if1 .left in
-    let j = joinable _ _ _ _ _ _ _ _ _ _ _ st (a .l) (a .r) asked in
+    let j = joinable st (a .l) (a .r) asked in
     let e = c .before .before .before .before .before .before .before .before .before .add-join .ensures (ready .state .nodes) j .0 in
-    let k : c .before .before .before .before .before .before .before .before .before .add-join .result ≤ 64 = omega (arith, e, joined-short _ _ _ _ _ _ _ _ _ _ _ st (a .l) (a .r) asked (a .t .variable)) in
+    let k : c .before .before .before .before .before .before .before .before .before .add-join .result ≤ 64 = omega (arith, e, joined-short st (a .l) (a .r) asked (a .t .variable)) in
     omega (arith, k, j .low)
 
 same-length-2 : tie.Need-same-length-2
@@ -69,8 +69,8 @@ returns-2 c =
     λ h p held firsts steps log s st.
     let a = c .before .before .before .before .before .before .before .before .before .before .before .before .before .before .before .before .before .before .before .args in
     let asked = sym (c .before .before .before .before .before .before .before .before .before .before .before .before .before .before .ask-join .ensures h (s .nodes) (st .rows) (sym (st .nodes))) ∙ c .before .before .before .before .before .before .before .before .before .before .before .before .before .if1 .left in
-    let added = c .before .before .before .before .before .before .before .before .before .add-join .ensures (s .nodes) (joinable h p (a .nodes .now) (a .leaves .now) (a .outputs .now) held firsts steps log (a .t) s st (a .l) (a .r) asked) in
-    join-made h p (a .nodes .now) (a .leaves .now) (a .outputs .now) held firsts steps log (a .t) s st (a .l) (a .r) asked _ _ _ (added .1) (added .2) _ refl refl refl refl (ap (λ k. a .t .variable + k) (added .0))
+    let added = c .before .before .before .before .before .before .before .before .before .add-join .ensures (s .nodes) (joinable st (a .l) (a .r) asked) in
+    join-made st (a .l) (a .r) asked _ _ _ (added .1) (added .2) _ refl refl refl refl (ap (λ k. a .t .variable + k) (added .0))
 
 pub join-spec : {M : Type 1} → statement M
 join-spec =

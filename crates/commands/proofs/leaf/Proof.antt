@@ -1,8 +1,7 @@
 -- `commands::leaf` meets its contract: each question in its turn, then a leaf that is there, or a new one.
-use mathlib.Core.Path.{_≡_, refl, sym, _∙_}
+use mathlib.Core.Path.{refl, sym, _∙_}
 use Prim.Native.Nat.{_≤_, _<_, _^_}
 use native.Mathlib.Omega.{arith}
-use lib.ListN.{length}
 use Rattle.pb.specs.Sum.{variable}
 use Rattle.player.specs.declared.Command.{Command}
 use Rattle.player.proofs.Formed.{head-low}
@@ -18,7 +17,7 @@ returns : tie.Need-returns
 returns c =
     λ h p held firsts steps log s e st.
     let a = c .before .before .before .before .args in
-    refused-early h p (a .nodes .now) (a .leaves .now) (a .outputs .now) held firsts steps log (a .t) s st (Command.Leaf (a .literal)) 6 (omega arith) (leaf-6 h (s .nodes) (a .literal) (unfold variable in omega arith)) _ refl refl
+    refused-early st (Command.Leaf (a .literal)) 6 (omega arith) (leaf-6 h (s .nodes) (a .literal) (unfold variable in omega arith)) _ refl refl
 
 known-requires : tie.Need-known-requires
 known-requires c κs = search needs
@@ -34,7 +33,7 @@ returns-2 c =
     λ h p held firsts steps log s e st.
     let a = c .before .before .before .before .before .before .before .before .args in
     let there = sym (c .before .known .ensures (a .outputs .now) (s .nodes) (st .rows) (st .lists) (sym (st .nodes))) ∙ c .if2 .taken in
-    leaf-there h p (a .nodes .now) (a .leaves .now) (a .outputs .now) held firsts steps log (a .t) s st (a .literal) (leaf-known h (s .nodes) (a .literal) (unfold variable in omega arith) there) there _ refl refl
+    leaf-there st (a .literal) (leaf-known h (s .nodes) (a .literal) (unfold variable in omega arith) there) there _ refl refl
 
 neg-requires : tie.Need-neg-requires
 neg-requires c κs = search needs
@@ -54,7 +53,7 @@ returns-3 c =
     let a = c .before .before .before .before .before .before .before .before .before .before .before .before .before .args in
     let new = sym (c .before .before .before .before .before .before .known .ensures (a .outputs .now) (s .nodes) (st .rows) (st .lists) (sym (st .nodes))) ∙ c .before .before .before .before .before .if2 .left in
     let negated = sym (c .before .known2 .ensures (a .outputs .now) (s .nodes) (st .rows) (st .lists) (sym (st .nodes))) ∙ c .if3 .taken in
-    refused-early h p (a .nodes .now) (a .leaves .now) (a .outputs .now) held firsts steps log (a .t) s st (Command.Leaf (a .literal)) 7 (omega arith)
+    refused-early st (Command.Leaf (a .literal)) 7 (omega arith)
     (leaf-negated h (s .nodes) (a .literal) (unfold variable in omega arith) new (rw (c .before .before .neg .ensures) at negated)) _ refl refl
 
 same-length-5 : tie.Need-same-length-5
@@ -69,7 +68,7 @@ returns-4 c =
     let a = c .before .before .before .before .before .before .before .before .before .before .before .before .before .before .before .args in
     let new = sym (c .before .before .before .before .before .before .before .before .known .ensures (a .outputs .now) (s .nodes) (st .rows) (st .lists) (sym (st .nodes))) ∙ c .before .before .before .before .before .before .before .if2 .left in
     let negated = sym (c .before .before .before .known2 .ensures (a .outputs .now) (s .nodes) (st .rows) (st .lists) (sym (st .nodes))) ∙ c .before .before .if3 .left in
-    refused-early h p (a .nodes .now) (a .leaves .now) (a .outputs .now) held firsts steps log (a .t) s st (Command.Leaf (a .literal)) 7 (omega arith)
+    refused-early st (Command.Leaf (a .literal)) 7 (omega arith)
     (leaf-many h (s .nodes) (a .literal) (unfold variable in omega arith) new (rw (c .before .before .before .before .neg .ensures) at negated) (omega (arith, st .leaves))) _ refl
     refl
 
@@ -103,7 +102,7 @@ returns-5 c =
     let new = sym (c .before .before .before .before .before .before .before .before .before .before .before .before .before .before .before .before .before .before .before .before .known .ensures (a .outputs .now) (s .nodes) (st .rows) (st .lists) (sym (st .nodes))) ∙ c .before .before .before .before .before .before .before .before .before .before .before .before .before .before .before .before .before .before .before .if2 .left in
     let negated = sym (c .before .before .before .before .before .before .before .before .before .before .before .before .before .before .before .known2 .ensures (a .outputs .now) (s .nodes) (st .rows) (st .lists) (sym (st .nodes))) ∙ c .before .before .before .before .before .before .before .before .before .before .before .before .before .before .if3 .left in
     let added = c .before .before .before .before .before .before .before .before .add-leaf .ensures (s .nodes) (st .rows) (st .lists) (sym (st .nodes)) small in
-    leaf-made h p (a .nodes .now) (a .leaves .now) (a .outputs .now) held firsts steps log (a .t) s st (a .literal)
+    leaf-made st (a .literal)
     (leaf-new h (s .nodes) (a .literal) below new (rw (c .before .before .before .before .before .before .before .before .before .before .before .before .before .before .before .before .neg .ensures) at negated) (omega (arith, st .leaves, c .before .before .before .before .before .before .before .before .before .before .before .before .if4 .left))) new
     _ _ _ (added .0) (added .1) _ refl refl refl refl refl
 

@@ -15,7 +15,7 @@ returns : tie.Need-returns
 returns c =
     λ h p s st.
     let a = c .before .before .before .before .before .before .before .before .before .args in
-    refused-early h p (a .nodes .now) (a .leaves .now) (a .outputs .now) (a .held .now) (a .firsts .now) (a .steps .now) (a .log .now) (a .t) s st (Command.Request (a .node) (a .value) (a .direction)) (c .before .ask-request .result) (omega (arith, c .if1 .taken))
+    refused-early st (Command.Request (a .node) (a .value) (a .direction)) (c .before .ask-request .result) (omega (arith, c .if1 .taken))
     (sym (c .before .ask-request .ensures h (s .nodes) (st .rows) (sym (st .nodes)))) _ refl refl
 
 request-requires : tie.Need-request-requires
@@ -24,16 +24,16 @@ request-requires c κs =
     let ready = c .before .before .before .before .before .before .before .before .before .before .before .before .before .before .pre in
     let st = ready .standing in
     let asked = sym (c .before .before .before .before .before .before .ask-request .ensures (ready .head) (ready .state .nodes) (st .rows) (sym (st .nodes))) ∙ c .before .before .before .before .before .if1 .left in
-    let f = fitting (ready .head) (ready .capacity) (a .nodes .now) (a .leaves .now) (a .outputs .now) (a .held .now) (a .firsts .now) (a .steps .now) (a .log .now) (a .t) (ready .state) st (a .node) (a .value) (a .direction) asked in (
-      request-tables (ready .head) (ready .capacity) (a .nodes .now) (a .leaves .now) (a .outputs .now) (a .held .now) (a .firsts .now) (a .steps .now) (a .log .now) (a .t) (ready .state) st (a .node) (a .value) (a .direction) asked,
-      (request-shown (ready .head) (ready .capacity) (a .nodes .now) (a .leaves .now) (a .outputs .now) (a .held .now) (a .firsts .now) (a .steps .now) (a .log .now) (a .t) (ready .state) st (a .node) (a .value) (a .direction) asked, (f .dir-low, f .dir-high)),
+    let f = fitting st (a .node) (a .value) (a .direction) asked in (
+      request-tables st (a .node) (a .value) (a .direction) asked,
+      (request-shown st (a .node) (a .value) (a .direction) asked, (f .dir-low, f .dir-high)),
     )
 
 end-requires : tie.Need-end-requires
 end-requires c κs =
     let a = c .before .before .before .before .before .before .before .before .before .before .before .before .before .before .before .before .before .before .before .before .before .before .before .before .args in
     let ready = c .before .before .before .before .before .before .before .before .before .before .before .before .before .before .before .before .before .before .before .before .before .before .before .before .pre in
-    omega (arith, at-within (ready .head) (ready .capacity) (a .nodes .now) (a .leaves .now) (a .outputs .now) (a .held .now) (a .firsts .now) (a .steps .now) (a .log .now) (a .t) (ready .state) (ready .standing))
+    omega (arith, at-within (ready .standing))
 
 same-length : tie.Need-same-length
 same-length c = search needs
@@ -52,7 +52,7 @@ returns-2 c =
     λ h p s st.
     let a = c .before .before .before .before .before .before .before .before .before .before .before .before .before .before .before .before .before .before .before .before .before .before .before .before .before .before .before .args in
     let asked = sym (c .before .before .before .before .before .before .before .before .before .before .before .before .before .before .before .before .before .before .before .ask-request .ensures h (s .nodes) (st .rows) (sym (st .nodes))) ∙ c .before .before .before .before .before .before .before .before .before .before .before .before .before .before .before .before .before .before .if1 .left in
-    requested h p (a .nodes .now) (a .leaves .now) (a .outputs .now) (a .held .now) (a .firsts .now) (a .steps .now) (a .log .now) (a .t) s st (a .node) (a .value) (a .direction) asked _ _ _ _ _ (c .before .before .before .before .before .before .before .before .before .before .before .before .request .ensures) _ _ (c .before .before .end .ensures .0) (c .before .before .end .ensures .1)
+    requested st (a .node) (a .value) (a .direction) asked _ _ _ _ _ (c .before .before .before .before .before .before .before .before .before .before .before .before .request .ensures) _ _ (c .before .before .end .ensures .0) (c .before .before .end .ensures .1)
 
 pub request-spec : {M : Type 1} → statement M
 request-spec =
