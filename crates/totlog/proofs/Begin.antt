@@ -1,27 +1,26 @@
 -- The tables of zeros that a play begins with, and the answer of a script that is refused at its head.
 use mathlib.Core.Path.{_≡_, refl, sym, _∙_, ap, subst}
-use mathlib.Core.Bool.{Bool, true, false, _&&_}
-use mathlib.Core.List.{List, [], _∷_, _++_, flatMap, List·Memᴰ·not-nil}
+use mathlib.Core.Bool.{true, false}
+use mathlib.Core.List.{List, [], flatMap, List·Memᴰ·not-nil}
 use Prim.Native.Nat.{ℕ, zero, suc, _+_, _-_, _*_, _≤_, _<_}
 use native.Mathlib.Omega.{arith}
 use borrow.Author.Tests.{le-leb, lt-leb}
-use lib.Dec.{leb}
-use lib.ListN.{length, getD, take, drop, replicate, length-replicate}
+use lib.ListN.{length, getD, replicate, length-replicate}
 use Rattle.number.specs.Number.{groups, readAt}
 use Rattle.number.specs.declared.Reading.{Reading}
 use Rattle.number.specs.declared.Reading.the-variants.{Number, Bad}
 use Rattle.number.proofs.Places.{readFrom-number}
 use Rattle.record.specs.Record.{numbers, bytes, steps, clauses}
 use Rattle.record.specs.Writing.{puts, filled, buffer}
-use Rattle.totdb.specs.Nodes.{Node, leafCount}
-use Rattle.cert.specs.State.{State, Head, start, keys, fromIn, storedSteps}
+use Rattle.totdb.specs.Nodes.{leafCount}
+use Rattle.cert.specs.Requests.{request}
+use Rattle.cert.specs.State.{Head, start, keys, fromIn, storedSteps}
 use Rattle.cert.proofs.Tables.{sized-nil}
 use Rattle.define.specs.Tables.{Lists, memory, Exact, flag, place, slot, SideOf, left-of, right-of}
-use Rattle.define.specs.declared.Out.{Out}
 use Rattle.request.specs.Rows.{Rows}
 use Rattle.player.specs.Places.{headAt, withNumber}
 use Rattle.player.specs.Player.{outcome, Outcome, plays, headFits, mostBytes, played, playScript, refusedAtHead}
-use Rattle.player.specs.Script.{readScript}
+use Rattle.player.specs.Script.{Commands}
 use Rattle.player.specs.declared.HeadReading.{HeadReading}
 use Rattle.player.proofs.Formed.{formed-start, head-low}
 use Rattle.player.proofs.Places.{headed, script-head}
@@ -29,7 +28,6 @@ use Rattle.player.proofs.Refusal.{played-true, played-false, script-true, scrip
 use Rattle.commands.specs.Standing.{Standing}
 use Rattle.commands.specs.declared.Totals.{Totals}
 use Rattle.totlog.specs.Entry.{answerAfter, answerOf, commandsFrom, playedFrom, Finished, Lent}
-use Rattle.totlog.specs.declared.Answer.{Answer}
 use Rattle.totlog.specs.declared.Ending.{Ending}
 
 -- ---- tables of zeros
@@ -74,22 +72,22 @@ module _ (h : Head) (head : headFits h ≡ true) (c : ℕ) (small : c ≤ 65536)
     steps-size = length-replicate {A = ℕ} 32768 0;
     log = log-start;
     step = step;
-    clauses = count ∙ (unfold Rattle.record.specs.Record.clauses in refl);
+    clauses = count ∙ (unfold clauses in refl);
     stored = stored ∙ (unfold storedSteps flatMap in refl);
     steps = rw stored (unfold storedSteps flatMap in refl);
     firsts = λ k u. zero-at 21692 (slot k) ∙ (unfold fromIn in refl);
     unshown = λ n l u. (zero-at 21692 (68 * n + 66), zero-at 21692 (68 * n + 67));
-    held = λ n v d l a b. zero-at 40832 (place (Rattle.cert.specs.Requests.request n v d)) ∙ (unfold flag in refl);
+    held = λ n v d l a b. zero-at 40832 (place (request n v d)) ∙ (unfold flag in refl);
     one = head-low h head .1;
     used = λ k m. absurd (List·Memᴰ·not-nil m);
     from-one = λ k m. absurd (List·Memᴰ·not-nil m);
     from-few = λ k. unfold fromIn in omega arith;
-    few = unfold Rattle.record.specs.Record.steps in omega (arith, head-low h head);
-    few-clauses = unfold Rattle.record.specs.Record.steps Rattle.record.specs.Record.clauses in omega arith;
-    few-stored = unfold Rattle.record.specs.Record.steps storedSteps in omega arith;
+    few = unfold steps in omega (arith, head-low h head);
+    few-clauses = unfold steps clauses in omega arith;
+    few-stored = unfold steps storedSteps in omega arith;
   }
 
-  pub standing-start : Standing h c (replicate 2552 0) (replicate 20416 0) (replicate 20416 0)
+  standing-start : Standing h c (replicate 2552 0) (replicate 20416 0) (replicate 20416 0)
       (memory (replicate 40832 0) (replicate 21692 0) (replicate 32768 0) (replicate c 0) (z .out)) z (start h)
   standing-start = record {
     formed = formed-start h head;
@@ -173,7 +171,7 @@ head-end bs v n e h = by (readAt bs 0) h
 
 -- ---- the answer of a play that has ended
 
-module _ (h : Head) (c : ℕ) (bs : List ℕ) (from : ℕ) (log : List ℕ) (r : Ending) (f : Finished h c (commandsFrom bs from) log r) where
+module _ {h : Head} {c : ℕ} {cs : Commands} {log : List ℕ} {r : Ending} (f : Finished h c cs log r) where
   pub finished-step : h .step ≤ r .totals .out .step
   finished-step = omega (arith, f .reported .step, f .counted)
 
@@ -187,7 +185,7 @@ module _ (h : Head) (c : ℕ) (bs : List ℕ) (from : ℕ) (log : List ℕ) (r :
   unfolding outcome
   log-is = f .reported .whole
 
-  pub finished-log : log ≡ playedFrom bs from h c .log
+  pub finished-log : log ≡ plays h c (cs .ending) (cs .list) 0 (start h) .log
   finished-log = log-is ∙ ap (λ (o : Outcome). o .log) (sym (f .is))
 
   answer-is : answerAfter (h .step) r ≡ answerOf (outcome c (r .number) (r .place) (f .state))
@@ -196,7 +194,7 @@ module _ (h : Head) (c : ℕ) (bs : List ℕ) (from : ℕ) (log : List ℕ) (r :
       let k : r .totals .out .step - h .step ≡ steps (f .state .log) = omega (arith, f .reported .step, f .counted) in
       rw (k, f .reported .used, f .reported .clauses, f .reported .nodes)
 
-  pub finished-answer : answerAfter (h .step) r ≡ answerOf (playedFrom bs from h c)
+  pub finished-answer : answerAfter (h .step) r ≡ answerOf (plays h c (cs .ending) (cs .list) 0 (start h))
   finished-answer = answer-is ∙ ap answerOf (sym (f .is))
 
 -- ---- a play begins
@@ -209,7 +207,7 @@ begin h = record {
   variable = h .variable;
 }
 
-module _ (script : List ℕ) (from : ℕ) (log : List ℕ) (h : Head) (l : Lent script from log h) where
+module _ {script : List ℕ} {from : ℕ} {log : List ℕ} {h : Head} (l : Lent script from log h) where
   pub standing-begin : Standing h (length log) (replicate 2552 0) (replicate 20416 0) (replicate 20416 0)
       (memory (replicate 40832 0) (replicate 21692 0) (replicate 32768 0) log (begin h .out)) (begin h) (start h)
   standing-begin =

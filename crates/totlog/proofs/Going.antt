@@ -1,15 +1,14 @@
 -- A play between two commands: what is still to be played comes to the same as the whole.
-use mathlib.Core.Path.{_≡_, refl, sym, _∙_, ap, subst}
-use mathlib.Core.Bool.{Bool, true, false}
-use mathlib.Core.List.{List, [], _∷_}
+use mathlib.Core.Path.{_≡_, refl, _∙_, ap}
+use mathlib.Core.Bool.{Bool}
+use mathlib.Core.List.{List, _∷_}
 use Prim.Native.Nat.{ℕ, zero, suc, _+_, _-_, _≤_, _<_}
 use native.Mathlib.Omega.{arith}
 use lib.ListN.{length, drop}
-use Rattle.record.specs.Record.{bytes, steps}
 use Rattle.cert.specs.State.{State, Head, start}
 use Rattle.define.specs.Tables.{memory}
 use Rattle.player.specs.Places.{nextAt}
-use Rattle.player.specs.Player.{plays, outcome, Outcome, play, accepted, refused}
+use Rattle.player.specs.Player.{plays, outcome, Outcome}
 use Rattle.player.specs.Script.{Commands, closes, readCommands, stop, before}
 use Rattle.player.specs.declared.Command.{Command}
 use Rattle.player.specs.declared.CommandReading.{CommandReading}
@@ -35,7 +34,7 @@ pub record Going (h : Head) (c : ℕ) (script : List ℕ) (cs : Commands) (ns ls
   pub enough : length script - at ≤ fuel
   pub is : playsAll h c cs 0 (start h) ≡ playsAll h c (readCommands fuel closed (drop at script)) place state
 
-module _ (h : Head) (c : ℕ) (script : List ℕ) (cs : Commands) (ns ls os held firsts ks log : List ℕ) (z : Totals) (at place : ℕ) (closed : Bool)
+module _ {h : Head} {c : ℕ} {script : List ℕ} {cs : Commands} {ns ls os held firsts ks log : List ℕ} {z : Totals} {at place : ℕ} {closed : Bool}
     (inside : at ≤ length script) (g : Going h c script cs ns ls os held firsts ks log z at place closed) where
   -- It ends in the state that the tables stand for.
   ends-here : (n p : ℕ) → playsAll h c (readCommands (g .fuel) closed (drop at script)) place (g .state) ≡ outcome c n p (g .state)
@@ -45,13 +44,13 @@ module _ (h : Head) (c : ℕ) (script : List ℕ) (cs : Commands) (ns ls os held
     state = g .state;
     is = g .is ∙ e ∙ rw (a, b);
     reported = rw d rep;
-    fits = fits h c ns ls os held firsts ks log z (g .state) (g .standing);
+    fits = fits (g .standing);
     counted = g .standing .formed .counted .next;
     few = few-nodes (g .standing .formed .treed);
   }
 
   now-reported : Reported c log z (g .state)
-  now-reported = reported h c ns ls os held firsts ks log z (g .state) (g .standing)
+  now-reported = reported (g .standing)
 
   pub finished : nextAt closed script at ≡ CommandReading.End → (r : Ending) → r .number ≡ 0 → r .place ≡ place → r .totals ≡ z → Finished h c cs log r
   finished e r a b d =
@@ -72,7 +71,7 @@ module _ (h : Head) (c : ℕ) (script : List ℕ) (cs : Commands) (ns ls os held
           unfold stop in plays-ended h c 0 m place (g .state) in
           ended ∙ ap (λ (k : ℕ). outcome c (suc m) k (g .state)) (omega arith)
 
-  module _ (k : Command) (e : ℕ) (reads : nextAt closed script at ≡ CommandReading.Command k e) where
+  module _ {k : Command} {e : ℕ} (reads : nextAt closed script at ≡ CommandReading.Command k e) where
     after : After script closed at (g .fuel) k e
     after = rest-command script closed at (g .fuel) inside (g .enough) k e reads
 
@@ -88,7 +87,7 @@ module _ (h : Head) (c : ℕ) (script : List ℕ) (cs : Commands) (ns ls os held
     pub end-inside : e ≤ length script
     end-inside = after .within
 
-    module _ (ns′ ls′ os′ held′ firsts′ ks′ log′ : List ℕ) (x : Ended) (p : Played h c k (g .state) ns′ ls′ os′ held′ firsts′ ks′ log′ x) where
+    module _ {ns′ ls′ os′ held′ firsts′ ks′ log′ : List ℕ} {x : Ended} (p : Played h c k (g .state) ns′ ls′ os′ held′ firsts′ ks′ log′ x) where
       pub goes-on : x .number ≡ 0 → (place′ : ℕ) → place′ ≡ place + 1 → (closed′ : Bool) → closed′ ≡ closes k
           → Going h c script cs ns′ ls′ os′ held′ firsts′ ks′ log′ (x .totals) e place′ closed′
       goes-on zero-number place′ a closed′ b = by p

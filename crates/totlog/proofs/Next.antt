@@ -1,14 +1,14 @@
 -- What stands at a place of a script, and the commands from there on.
 use mathlib.Core.Path.{_≡_, refl, sym, _∙_, ap}
 use mathlib.Core.Bool.{Bool, true, false}
-use mathlib.Core.List.{List, [], _∷_, _++_}
+use mathlib.Core.List.{List, [], _∷_}
 use Prim.Native.Nat.{ℕ, zero, suc, _+_, _-_, _≤_, _<_}
 use native.Mathlib.Omega.{arith}
 use lib.ListN.{length, drop, length-append, length-drop}
 use lib.Seq.{drop-append-seam, drop-drop}
 use Rattle.number.specs.Number.{number, bad, read, Front}
 use Rattle.player.specs.Places.{placed, nextAt}
-use Rattle.player.specs.Script.{Next, command, refuse, end, get, arguments, readCommand, closes, Commands, stop, before, readCommands}
+use Rattle.player.specs.Script.{Next, command, refuse, end, get, arguments, readCommand, closes, stop, before, readCommands}
 use Rattle.player.specs.declared.Command.{Command}
 use Rattle.player.specs.declared.CommandReading.{CommandReading}
 use Rattle.player.proofs.Reading.{command-front}

@@ -1,18 +1,14 @@
 -- `totlog::pad` meets its contract: after i turns the first i bytes are written.
 use borrow.Author.Needs.{needs}
-use native.Mathlib.Omega.{arith}
 use mathlib.Core.Path.{_≡_, refl, sym, ap, _∙_}
-use mathlib.Core.List.{List, _++_}
+use mathlib.Core.List.{_++_}
 use mathlib.Core.Logic.{⊎-elim}
-use Prim.Native.Nat.{ℕ, _≤_, _-_}
-use lib.ListN.{length, length-set, set, drop, replicate}
+use Prim.Native.Nat.{_≤_, _-_}
+use lib.ListN.{length, length-set, replicate}
 use lib.Seq.{paste, paste-zero}
-use borrow.Author.Fill.{fill-more, fill-none}
 use Rattle.totlog.proofs.Fills.{pad-in, pad-past, pad-more, pad-done}
 use Rattle.totlog.proofs.pad.Statement.{statement}
 use Rattle.totlog.proofs.pad.Tie as tie
-use Rattle.totlog.proofs.pad.Reads as reads
-use Rattle.totlog.proofs.pad.Lts as lts
 
 abbrev Inv-loop : tie.InvT-loop
 Inv-loop dst₀ b i₀ i-end dst i = (i ≤ i-end) × (dst ≡ paste dst₀ 0 (b ++ replicate (length dst₀) 0) i) × (length dst ≡ length dst₀)

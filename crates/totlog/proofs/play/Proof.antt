@@ -76,7 +76,7 @@ returns c =
     λ h p st.
     let l = c .before .before .before .loop in
     let a = c .before .before .before .before .before .before .before .before .before .before .before .before .args in
-    finished h p (a .script .now) (commandsFrom (a .script .now) (a .from)) (l .nodes) (l .leaves) (l .outputs) (l .held) (l .firsts) (l .steps) (l .log) (l .t) (l .at) (l .place) (l .closed) (l .inv .0) (l .inv .9 h p st) (sym (c .before .before .next .ensures) ∙ c .enum-told .given .1) _ refl refl refl
+    finished (l .inv .0) (l .inv .9 h p st) (sym (c .before .before .next .ensures) ∙ c .enum-told .given .1) _ refl refl refl
 
 enum-known-reading : tie.Need-enum-known-reading Inv-loop μ-loop
 enum-known-reading c = search needs
@@ -112,7 +112,7 @@ returns-2 c =
     λ h p st.
     let l = c .before .before .before .before .loop in
     let a = c .before .before .before .before .before .before .before .before .before .before .before .before .before .args in
-    stopped-reading h p (a .script .now) (commandsFrom (a .script .now) (a .from)) (l .nodes) (l .leaves) (l .outputs) (l .held) (l .firsts) (l .steps) (l .log) (l .t) (l .at) (l .place) (l .closed) (l .inv .0) (l .inv .9 h p st) _ (sym (c .before .before .before .next .ensures) ∙ c .before .reading .given .1) _ refl refl refl
+    stopped-reading (l .inv .0) (l .inv .9 h p st) _ (sym (c .before .before .before .next .ensures) ∙ c .before .reading .given .1) _ refl refl refl
 
 enum-known-reading-2 : tie.Need-enum-known-reading-2 Inv-loop μ-loop
 enum-known-reading-2 c = search needs
@@ -171,7 +171,7 @@ returns-3 c =
     let a = c .before .before .before .before .before .before .before .before .before .before .before .before .before .before .before .before .before .before .before .before .before .before .before .before .before .before .before .before .before .before .before .before .before .before .before .before .before .before .args in
     let g = l .inv .9 h p st in
     let played = c .before .before .before .before .before .before .before .before .before .before .before .before .before .before .before .before .before .command .ensures h p (g .state) (unfold start in st .variable) (g .standing) in
-    stops h p (a .script .now) (commandsFrom (a .script .now) (a .from)) (l .nodes) (l .leaves) (l .outputs) (l .held) (l .firsts) (l .steps) (l .log) (l .t) (l .at) (l .place) (l .closed) (l .inv .0) g _ _ (sym (c .before .before .before .before .before .before .before .before .before .before .before .before .before .before .before .before .before .before .before .before .before .before .before .before .before .before .before .before .next .ensures) ∙ c .before .before .before .before .before .before .before .before .before .before .before .before .before .before .before .before .before .before .before .before .before .before .before .before .before .before .reading2 .given .1) _ _ _ _ _ _ _ _ played (c .if1 .taken) _ refl refl refl
+    stops (l .inv .0) g (sym (c .before .before .before .before .before .before .before .before .before .before .before .before .before .before .before .before .before .before .before .before .before .before .before .before .before .before .before .before .next .ensures) ∙ c .before .before .before .before .before .before .before .before .before .before .before .before .before .before .before .before .before .before .before .before .before .before .before .before .before .before .reading2 .given .1) played (c .if1 .taken) _ refl refl refl
 
 add-place : tie.Need-add-place Inv-loop μ-loop
 add-place c =
@@ -188,8 +188,8 @@ loop-less c =
     let b = c .before .before .before .before .before .before .before .before .before .before .before .before .before .before .before .before .before .before .before .before .before .before .before .before .before .before .before .before .before .before .before .before .before .before .before .before .before .before .before .pre .1 in
     let g = l .inv .9 (b .head) (b .capacity) (b .standing) in
     let reads = sym (c .before .before .before .before .before .before .before .before .before .before .before .before .before .before .before .before .before .before .before .before .before .before .before .before .before .before .before .before .before .next .ensures) ∙ c .before .before .before .before .before .before .before .before .before .before .before .before .before .before .before .before .before .before .before .before .before .before .before .before .before .before .before .reading2 .given .1 in
-    let later = end-later (b .head) (b .capacity) (a .script .now) (commandsFrom (a .script .now) (a .from)) (l .nodes) (l .leaves) (l .outputs) (l .held) (l .firsts) (l .steps) (l .log) (l .t) (l .at) (l .place) (l .closed) (l .inv .0) g _ _ reads in
-    let inside = end-inside (b .head) (b .capacity) (a .script .now) (commandsFrom (a .script .now) (a .from)) (l .nodes) (l .leaves) (l .outputs) (l .held) (l .firsts) (l .steps) (l .log) (l .t) (l .at) (l .place) (l .closed) (l .inv .0) g _ _ reads in
+    let later = end-later (l .inv .0) g reads in
+    let inside = end-inside (l .inv .0) g reads in
     omega (arith, later, inside)
 
 loop-again : tie.Need-loop-again Inv-loop μ-loop
@@ -199,9 +199,9 @@ loop-again c =
     let b = c .before .before .before .before .before .before .before .before .before .before .before .before .before .before .before .before .before .before .before .before .before .before .before .before .before .before .before .before .before .before .before .before .before .before .before .before .before .before .before .pre .1 in
     let known = l .inv .9 (b .head) (b .capacity) (b .standing) in
     let reads = sym (c .before .before .before .before .before .before .before .before .before .before .before .before .before .before .before .before .before .before .before .before .before .before .before .before .before .before .before .before .before .next .ensures) ∙ c .before .before .before .before .before .before .before .before .before .before .before .before .before .before .before .before .before .before .before .before .before .before .before .before .before .before .before .reading2 .given .1 in
-    let later = end-later (b .head) (b .capacity) (a .script .now) (commandsFrom (a .script .now) (a .from)) (l .nodes) (l .leaves) (l .outputs) (l .held) (l .firsts) (l .steps) (l .log) (l .t) (l .at) (l .place) (l .closed) (l .inv .0) known _ _ reads in
+    let later = end-later (l .inv .0) known reads in
     let kept = c .before .before .before .before .before .before .before .before .before .before .before .before .before .before .before .before .before .before .command .kept in (
-      end-inside (b .head) (b .capacity) (a .script .now) (commandsFrom (a .script .now) (a .from)) (l .nodes) (l .leaves) (l .outputs) (l .held) (l .firsts) (l .steps) (l .log) (l .t) (l .at) (l .place) (l .closed) (l .inv .0) known _ _ reads,
+      end-inside (l .inv .0) known reads,
       omega (arith, later, l .inv .1),
       kept .0 ∙ l .inv .2,
       kept .1 .0 ∙ l .inv .3,
@@ -213,7 +213,7 @@ loop-again c =
       λ h p st.
           let g = l .inv .9 h p st in
           let played = c .before .before .before .before .before .before .before .before .before .before .before .before .before .before .before .before .before .before .command .ensures h p (g .state) (unfold start in st .variable) (g .standing) in
-          goes-on h p (a .script .now) (commandsFrom (a .script .now) (a .from)) (l .nodes) (l .leaves) (l .outputs) (l .held) (l .firsts) (l .steps) (l .log) (l .t) (l .at) (l .place) (l .closed) (l .inv .0) g _ _ reads _ _ _ _ _ _ _ _ played (c .before .if1 .left) _ refl _ (c .closes .ensures),
+          goes-on (l .inv .0) g reads played (c .before .if1 .left) _ refl _ (c .closes .ensures),
     )
 
 pub play-spec : {M : Type 1} → statement M

@@ -29,18 +29,18 @@ play-requires c κs =
     let a = c .before .before .before .before .before .before .before .before .before .args in
     let lent = c .before .before .before .before .before .before .before .before .before .pre in (
       (lent .short, lent .inside),
-      record { head = (record { variable = a .variable; step = a .step }); capacity = _; standing = standing-begin (a .script .now) (a .from) (a .log .now) (record { variable = a .variable; step = a .step }) lent },
+      record { head = (record { variable = a .variable; step = a .step }); capacity = _; standing = standing-begin lent },
     )
 
 answer-to-requires : tie.Need-answer-to-requires
 answer-to-requires c κs =
     let a = c .before .before .before .before .before .before .before .before .before .before .before .before .before .before .before .before .before .before .args in
     let lent = c .before .before .before .before .before .before .before .before .before .before .before .before .before .before .before .before .before .before .pre in
-    let f = c .before .before .before .before .before .before .before .before .play .ensures (record { variable = a .variable; step = a .step }) _ (standing-begin (a .script .now) (a .from) (a .log .now) (record { variable = a .variable; step = a .step }) lent) in
-    let at = finished-at (record { variable = a .variable; step = a .step }) _ (a .script .now) (a .from) _ _ f in (
-      finished-step (record { variable = a .variable; step = a .step }) _ (a .script .now) (a .from) _ _ f,
+    let f = c .before .before .before .before .before .before .before .before .play .ensures (record { variable = a .variable; step = a .step }) _ (standing-begin lent) in
+    let at = finished-at f in (
+      finished-step f,
       omega (arith, at, lent .small),
-      finished-nodes (record { variable = a .variable; step = a .step }) _ (a .script .now) (a .from) _ _ f,
+      finished-nodes f,
     )
 
 same-length : tie.Need-same-length
@@ -50,8 +50,8 @@ returns : tie.Need-returns
 returns c =
     let a = c .before .before .before .before .before .before .before .before .before .before .before .before .before .before .before .before .before .before .before .args in
     let lent = c .before .before .before .before .before .before .before .before .before .before .before .before .before .before .before .before .before .before .before .pre in
-    let f = c .before .before .before .before .before .before .before .before .before .play .ensures (record { variable = a .variable; step = a .step }) _ (standing-begin (a .script .now) (a .from) (a .log .now) (record { variable = a .variable; step = a .step }) lent) in
-    (c .answer-to .ensures ∙ finished-answer (record { variable = a .variable; step = a .step }) _ (a .script .now) (a .from) _ _ f, finished-log (record { variable = a .variable; step = a .step }) _ (a .script .now) (a .from) _ _ f)
+    let f = c .before .before .before .before .before .before .before .before .before .play .ensures (record { variable = a .variable; step = a .step }) _ (standing-begin lent) in
+    (c .answer-to .ensures ∙ finished-answer f, finished-log f)
 
 pub play-commands-spec : {M : Type 1} → statement M
 play-commands-spec =
