@@ -1,38 +1,29 @@
--- The sides and outputs of a join, as the code reads them from the lists of the nodes; and the parts of a clause.
+-- The sides and outputs of a join, as the code reads them from the lists of the nodes.
 use mathlib.Core.Path.{_≡_, refl, sym, ap, _∙_}
-use mathlib.Core.Bool.{Bool, true, false, not}
+use mathlib.Core.Bool.{Bool, true, false}
 use mathlib.Core.Logic.{dite}
-use mathlib.Core.List.{List, [], _∷_, _++_, flatMap, append-nil}
+use mathlib.Core.List.{List, [], _∷_}
 use Prim.Native.Nat.{ℕ, zero, suc, _+_, _-_, _*_, _≤_, _<_}
 use native.Mathlib.Decide.{decLe}
 use native.Mathlib.Omega.{arith}
 use lib.ListN.{length, getD}
 use Rattle.pb.specs.Sum.{neg}
-use Rattle.record.specs.Record.{numbers, derivation, clause}
-use Rattle.record.specs.Writing.{Buffer, Puts}
-use Rattle.record.proofs.Writing.{after}
-use Rattle.totdb.specs.Nodes.{Node, leaf, join, at, len, output, outputs, fromFirst, sideLen, sideLit, lengthOver, plainOr, keyed}
+use Rattle.totdb.specs.Nodes.{Node, leaf, join, at, len, output, fromFirst, sideLen, sideLit, lengthOver, plainOr, keyed}
 use Rattle.totdb.specs.declared.Side.{Side}
-use Rattle.cert.specs.Definitions.{Direction, Key, real, window, stored, lacking, oneDef, realDef, windowDef, longDef, sideDef}
-use Rattle.cert.specs.Requests.{Clause, negPart, posPart, lacks, keyOf, looksOf}
-use Rattle.memo.specs.Visit.{each}
-use Rattle.memo.proofs.Unrolled.{each-append}
-use Rattle.cert.specs.State.{State, Stored, stepIn, lookUp, write, writeClause}
-use Rattle.derivation.specs.Operands.{operand, part, stepTokens}
-use Rattle.derivation.specs.declared.Part.{Part}
-use Rattle.derivation.specs.declared.SemDefinition.{SemDefinition}
+use Rattle.cert.specs.Definitions.{Direction, oneDef, realDef, sideDef}
+use Rattle.cert.specs.Requests.{negPart, posPart, lacks}
+use Rattle.cert.specs.State.{Stored, stepIn}
+use Rattle.derivation.specs.Operands.{operand}
 use Rattle.derivation.specs.declared.SemDefinition.the-variants.{Step}
-use Rattle.derivation.proofs.ClauseRecords.{clause-step}
-use Rattle.define.specs.Tables.{Memory, Does, Lists, SideOf, left-of, right-of, SideIn, RealOf, WindowOf, direction}
-use Rattle.define.proofs.Does.{does-then, does-under, does-same}
+use Rattle.define.specs.Tables.{Lists, SideOf, left-of, right-of, SideIn, RealOf, WindowOf, direction}
 use Rattle.define.proofs.Rows.{output-at}
-use Rattle.define.proofs.Sides.{real-keys, long-plain, long-window, plain-keyed, short-side, long-side, side-length}
+use Rattle.define.proofs.Sides.{long-plain, long-window, plain-keyed, short-side, long-side, side-length}
 use Rattle.define.proofs.Slots.{side-inside}
 use Rattle.clauses.specs.declared.Join.{Join}
 use Rattle.clauses.specs.Firsts.{realStep, windowStep, FirstsOf}
 use Rattle.clauses.proofs.Firsts.{real-read, window-read}
-use Rattle.clauses.specs.Joins.{JoinOf, JoinIn, ClauseIn, SideReach, ClauseReach, Within, clauseOf, clausePart}
-use Rattle.clauses.proofs.Standing.{clauseRecords}
+use Rattle.clauses.specs.Joins.{JoinOf, JoinIn, ClauseIn, SideReach, ClauseReach, clausePart}
+use Rattle.clauses.proofs.Lacking.{this-there}
 
 -- ---- the outputs of a node
 
@@ -105,69 +96,6 @@ module _ {t : List Node} {x : Join} where
           left-in = rw (← e) (k .left);
           right-in = rw (← f) (k .right);
         }
-
--- ---- the definitions that a clause looks up are there
-
-there-yes : {P : Type 0} (d : Dec P) (k : Key) (i : ℕ) → P → lacks (dite d (λ _. stored k i) (λ _. lacking)) ≡ false
-unfolding lacks
-there-yes (yes p) k i h = refl
-there-yes (no p) k i h = absurd (p h)
-
-this-there : (m n v : ℕ) (b : Bool) → 1 ≤ v → v ≤ m → lacks (realDef m n v (direction b)) ≡ false
-unfolding realDef lacks direction
-this-there m n zero b h k = absurd (omega arith)
-this-there m n (suc v) false h k = refl
-this-there m n (suc v) true h k = there-yes (decLe (suc v) m) (real n (suc v)) 1 k
-
--- Of a side a clause looks up the other direction.
-module _ (b : Bool) (m i : ℕ) (w : Within b m i) where
-  one-there : (o : ℕ) → m ≤ 1 → lacks (oneDef o i (direction (not b))) ≡ false
-  unfolding oneDef lacks direction
-  one-there o h = by b i (w .above) (w .below)
-    where
-      by : (b : Bool) (i : ℕ) → (b ≡ true → 1 ≤ i) → (b ≡ false → i ≤ m) → lacks (oneDef o i (direction (not b))) ≡ false
-      by true zero f g = absurd (omega (arith, f refl))
-      by true (suc zero) f g = refl
-      by true (suc (suc i)) f g = refl
-      by false zero f g = refl
-      by false (suc zero) f g = refl
-      by false (suc (suc i)) f g = absurd (omega (arith, g refl))
-
-  real-there : (n : ℕ) → lacks (realDef m n i (direction (not b))) ≡ false
-  unfolding realDef lacks direction
-  real-there n = by b i (w .above) (w .below)
-    where
-      by : (b : Bool) (i : ℕ) → (b ≡ true → 1 ≤ i) → (b ≡ false → i ≤ m) → lacks (realDef m n i (direction (not b))) ≡ false
-      by true zero f g = absurd (omega (arith, f refl))
-      by true (suc i) f g = refl
-      by false zero f g = refl
-      by false (suc i) f g = there-yes (decLe (suc i) m) (real n (suc i)) 1 (g refl)
-
-  window-there : (n f : ℕ) → lacks (windowDef n f m i (direction (not b))) ≡ false
-  unfolding windowDef lacks direction
-  window-there n f = by b i (w .above) (w .below)
-    where
-      by : (b : Bool) (i : ℕ) → (b ≡ true → 1 ≤ i) → (b ≡ false → i ≤ m) → lacks (windowDef n f m i (direction (not b))) ≡ false
-      by true zero g h = absurd (omega (arith, g refl))
-      by true (suc i) g h = refl
-      by false zero g h = refl
-      by false (suc i) g h = there-yes (decLe (suc i) m) (window n f m) (2 * i + 2) (h refl)
-
-  long-there : (n f k : ℕ) → lacks (longDef m n f k i (direction (not b))) ≡ false
-  unfolding longDef plainOr
-  long-there n zero zero = real-there n
-  long-there n zero (suc k) = window-there n zero
-  long-there n (suc f) k = window-there n (suc f)
-
-pub side-there : (t : List Node) (s : Side) (i : ℕ) (b : Bool) → Within b (sideLen t s) i → lacks (sideDef t s i (direction (not b))) ≡ false
-unfolding sideDef
-side-there t s i b w = by (decLe (sideLen t s) 1)
-  where
-    by : (c : Dec (sideLen t s ≤ 1))
-        → lacks (dite c (λ _. oneDef (sideLit t s 1) i (direction (not b)))
-        (λ _. longDef (sideLen t s) (s .node) (s .offset) (s .limit) i (direction (not b)))) ≡ false
-    by (yes p) = one-there b (sideLen t s) i w (sideLit t s 1) p
-    by (no p) = long-there b (sideLen t s) i w (s .node) (s .offset) (s .limit)
 
 -- ---- a side, by the cases of the code
 
@@ -245,46 +173,3 @@ pub this-read : {t : List Node} {x : Join} {v : ℕ} {firsts : List ℕ} {es : L
 this-read {t} {x} {v} b f i h k =
     real-read f (x .node) (len (at t (x .node))) v b h (omega arith)
     (this-there (len (at t (x .node))) (x .node) v b (i .above) (omega (arith, i .within, i .of .own-len)))
-
--- ---- the records of a clause
-
-pub clause-puts : {b c d : Buffer} (k : Clause) (u : State) (this left right : SemDefinition) (p q : Part) (o step : ℕ)
-    → this ≡ operand (stepIn (u .stored)) (k .this) → left ≡ operand (stepIn (u .stored)) (k .left) → right ≡ operand (stepIn (u .stored)) (k .right)
-    → part p ++ part q ++ (o ∷ []) ≡ k .literals → step ≡ u .next-step
-    → Puts b (numbers (derivation (stepTokens this left right))) c → Puts c (numbers (clause step (part p ++ part q ++ (o ∷ [])))) d
-    → Puts b (flatMap numbers (clauseRecords k u)) d
-unfolding flatMap
-clause-puts k u this left right p q o step et el er ek es x y =
-    rw (append-nil (numbers (clause (u .next-step) (k .literals))), ← clause-step (stepIn (u .stored)) k, ← et, ← el, ← er, ← ek, ← es) (after x y)
-
--- ---- a clause after its lookups
-
-module _ {x : Join} {v i j : ℕ} {b : Bool} where
-  clause-is : (t : List Node) → ClauseIn t x v i j b → (s : State)
-      → write (clauseOf t x v i j b)
-      (lookUp t (real (x .node) v)
-      (each (lookUp t) (keyOf (sideDef t (x .right) j (direction (not b)))) (each (lookUp t) (keyOf (sideDef t (x .left) i (direction (not b)))) s)))
-      ≡ writeClause t (clauseOf t x v i j b) s
-  unfolding writeClause looksOf clauseOf each
-  clause-is t k s =
-      rw (
-        each-append (lookUp t)
-            (keyOf (sideDef t (x .left) i (direction (not b))) ++ keyOf (sideDef t (x .right) j (direction (not b))))
-            (keyOf (realDef (len (at t (x .node))) (x .node) v (direction b))) s,
-        each-append (lookUp t) (keyOf (sideDef t (x .left) i (direction (not b)))) (keyOf (sideDef t (x .right) j (direction (not b)))) s,
-        real-keys (len (at t (x .node))) (x .node) v (direction b)
-            (this-there (len (at t (x .node))) (x .node) v b (k .of .above) (omega (arith, k .of .within, k .of .of .own-len))),
-      )
-
-  pub does-clause : {ls os : List ℕ} {m n p q r : Memory}
-      → Does ls os (λ t. SideIn t (x .left) (x .«left_len») i × (lacks (sideDef t (x .left) i (direction (not b))) ≡ false))
-      (λ t u. each (lookUp t) (keyOf (sideDef t (x .left) i (direction (not b)))) u) m n
-      → Does ls os (λ t. SideIn t (x .right) (x .«right_len») j × (lacks (sideDef t (x .right) j (direction (not b))) ≡ false))
-      (λ t u. each (lookUp t) (keyOf (sideDef t (x .right) j (direction (not b)))) u) n p
-      → Does ls os (λ t. RealOf t (x .node) (x .len) v) (λ t u. lookUp t (real (x .node) v) u) p q
-      → Does ls os (λ t. ClauseIn t x v i j b) (λ t u. write (clauseOf t x v i j b) u) q r
-      → Does ls os (λ t. ClauseIn t x v i j b) (λ t u. writeClause t (clauseOf t x v i j b) u) m r
-  does-clause d e f g =
-      does-same (λ t s l k. clause-is t k s)
-      (does-then (does-under (λ t l k. (left-in k, side-there t (x .left) i b (k .left))) d)
-      (does-then (does-under (λ t l k. (right-in k, side-there t (x .right) j b (k .right))) e) (does-then (does-under (λ t l k. this-in k) f) g)))

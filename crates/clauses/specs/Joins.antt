@@ -21,7 +21,7 @@ pub record JoinOf (t : List Node) (x : Join) : Type 0 where
   pub left-len : x .«left_len» ≡ len (at t (x .left .node))
   pub right-len : x .«right_len» ≡ len (at t (x .right .node))
 
--- with a value of it
+-- A join with a value of it.
 pub record JoinIn (t : List Node) (x : Join) (v : ℕ) : Type 0 where
   pub of : JoinOf t x
   pub above : 1 ≤ v

@@ -9,7 +9,7 @@ ghost use mathlib.Core.List.{List};
 ghost use Prim.Native.Nat.{ℕ, _≤_, _<_, _+_, _-_, _*_, min};
 ghost use lib.ListN.{length, getD};
 ghost use Rattle.memo.specs.Visit.{each};
-ghost use Rattle.totdb.specs.Nodes.{Node, at, len, output, lengthOver};
+ghost use Rattle.totdb.specs.Nodes.{Node, at, output, lengthOver};
 ghost use Rattle.cert.specs.Definitions.{sideDef, Key, oneDef};
 ghost use Rattle.cert.specs.Requests.{request, clausesOf, lacks};
 ghost use Rattle.cert.specs.State.{writeClause, Stored, stepIn, write};
@@ -60,7 +60,7 @@ fn real_definition(firsts: &[u32], node: usize, value: usize, only_if: bool) -> 
     SemDefinition::Step(first)
 }
 
-// The step k places after the first, which stays below what no log reaches.
+// The step k places after the first. The bound, which no log reaches, keeps the sum in a u32.
 fn step_at(first: u32, k: u32) -> u32
     requires { ⌜ k ≤ 200 ⌝ }
     ensures { λ r. ⌜ r ≡ stepAt first k ⌝ }
@@ -247,7 +247,7 @@ fn least(sum: usize, q: usize) -> usize
     if q < sum { sum - q } else { 0 }
 }
 
-// The most that it has, where that is at most p.
+// The most that the left side has of a sum, where it has at most p.
 fn greatest(sum: usize, p: usize) -> usize
     ensures { λ r. ⌜ r ≡ min sum p ⌝ }
 {

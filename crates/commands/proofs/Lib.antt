@@ -2,6 +2,6 @@
 pub mod Room
 pub mod Ends
 pub mod Questions
-pub mod Made
+pub mod NodeMore
 pub mod Making
 pub mod Writes

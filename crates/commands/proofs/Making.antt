@@ -5,7 +5,6 @@ use mathlib.Core.List.{List, [], _∷_, _++_}
 use Prim.Native.Nat.{ℕ, _+_, _≤_, _<_}
 use native.Mathlib.Omega.{arith}
 use lib.ListN.{length, length-append}
-use Rattle.pb.specs.Sum.{variable}
 use Rattle.totdb.specs.Nodes.{Node, leaf, joined, at, leaves, len, known, taken, leafCount, sideLen, sideLeaves}
 use Rattle.totdb.specs.declared.Side.{Side}
 use Rattle.cert.specs.State.{State, Head}
@@ -25,7 +24,7 @@ use Rattle.commands.specs.Standing.{Standing, Played, went}
 use Rattle.commands.specs.declared.Ended.{Ended}
 use Rattle.commands.specs.declared.Totals.{Totals}
 use Rattle.commands.proofs.Ends.{fits}
-use Rattle.commands.proofs.Made.{exact-make}
+use Rattle.commands.proofs.NodeMore.{exact-make}
 
 module _ {h : Head} {c : ℕ} {ns ls os held firsts steps log : List ℕ} {z : Totals} {s : State}
     (st : Standing h c ns ls os (memory held firsts steps log (z .out)) z s) where

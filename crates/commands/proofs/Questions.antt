@@ -1,4 +1,4 @@
--- The first question answered no, of a leaf, a join and a request, one by one.
+-- The first question answered no, of a leaf, a join and a request, in the order of the code.
 use mathlib.Core.Path.{_≡_, refl, sym, _∙_, ap}
 use mathlib.Core.Bool.{Bool, true, false}
 use mathlib.Core.List.{List}
@@ -7,13 +7,14 @@ use native.Mathlib.Omega.{arith}
 use borrow.Author.Tests.{lt-ltb, le-ltb, le-leb, lt-leb, eq-eqb, ne-eqb}
 use lib.ListN.{length, getD}
 use Rattle.pb.specs.Sum.{variable, neg}
-use Rattle.totdb.specs.Nodes.{Node, at, len, known, taken, leafCount}
+use Rattle.totdb.specs.Nodes.{Node, at, len, known, taken}
 use Rattle.totdb.specs.declared.Side.{Side}
 use Rattle.cert.specs.State.{Head}
 use Rattle.request.specs.Rows.{Rows}
 use Rattle.nodes.proofs.Placing.{len-in}
 use Rattle.player.specs.Player.{firstNo, questions, sideFits}
 use Rattle.player.specs.declared.Command.{Command}
+use Rattle.player.proofs.Lengths.{Free, asked-ten, value-zero}
 use Rattle.commands.specs.Standing.{fitsOver}
 
 module _ (h : Head) (t : List Node) (l : ℕ) where
@@ -30,14 +31,6 @@ module _ (h : Head) (t : List Node) (l : ℕ) where
       pub leaf-negated : known t (neg l) ≡ true → firstNo (questions h t (Command.Leaf l)) ≡ 7
       unfolding questions firstNo
       leaf-negated p = rw (lt-ltb (variable l) (h .variable) low, new, p)
-
-      pub leaf-many : known t (neg l) ≡ false → 64 ≤ leafCount t → firstNo (questions h t (Command.Leaf l)) ≡ 7
-      unfolding questions firstNo
-      leaf-many p q = rw (lt-ltb (variable l) (h .variable) low, new, p, le-ltb (leafCount t) 64 q)
-
-      pub leaf-new : known t (neg l) ≡ false → leafCount t < 64 → firstNo (questions h t (Command.Leaf l)) ≡ 0
-      unfolding questions firstNo
-      leaf-new p q = rw (lt-ltb (variable l) (h .variable) low, new, p, lt-ltb (leafCount t) 64 q)
 
 module _ (h : Head) (t : List Node) (l r : Side) where
   pub join-left : length t ≤ l .node → firstNo (questions h t (Command.Join l r)) ≡ 8
@@ -66,37 +59,21 @@ module _ (h : Head) (t : List Node) (l r : Side) where
               rw (lt-ltb (l .node) (length t) left, lt-ltb (r .node) (length t) right, ne-eqb (l .node) (r .node) apart, left-free, p)
 
           module _ (right-free : taken t (r .node) ≡ false) where
+            free : Free t l r
+            free = record { left = left; right = right; apart = apart; left-free = left-free; right-free = right-free }
+
             pub join-left-out : sideFits t l ≡ false → firstNo (questions h t (Command.Join l r)) ≡ 10
-            unfolding questions firstNo
-            join-left-out p =
-                rw (lt-ltb (l .node) (length t) left, lt-ltb (r .node) (length t) right, ne-eqb (l .node) (r .node) apart, left-free, right-free, p)
+            unfolding firstNo
+            join-left-out p = asked-ten h t l r free ∙ rw p
 
             module _ (left-in : sideFits t l ≡ true) where
               pub join-right-out : sideFits t r ≡ false → firstNo (questions h t (Command.Join l r)) ≡ 10
-              unfolding questions firstNo
-              join-right-out p =
-                  rw (
-                    lt-ltb (l .node) (length t) left,
-                    lt-ltb (r .node) (length t) right,
-                    ne-eqb (l .node) (r .node) apart,
-                    left-free,
-                    right-free,
-                    left-in,
-                    p,
-                  )
+              unfolding firstNo
+              join-right-out p = asked-ten h t l r free ∙ rw (left-in, p)
 
               pub join-fits-both : sideFits t r ≡ true → firstNo (questions h t (Command.Join l r)) ≡ 0
-              unfolding questions firstNo
-              join-fits-both p =
-                  rw (
-                    lt-ltb (l .node) (length t) left,
-                    lt-ltb (r .node) (length t) right,
-                    ne-eqb (l .node) (r .node) apart,
-                    left-free,
-                    right-free,
-                    left-in,
-                    p,
-                  )
+              unfolding firstNo
+              join-fits-both p = asked-ten h t l r free ∙ rw (left-in, p)
 
 module _ (h : Head) (t : List Node) (n v d : ℕ) where
   pub request-8 : length t ≤ n → firstNo (questions h t (Command.Request n v d)) ≡ 8
@@ -105,27 +82,17 @@ module _ (h : Head) (t : List Node) (n v d : ℕ) where
 
   module _ (there : n < length t) where
     pub request-zero : v ≡ 0 → firstNo (questions h t (Command.Request n v d)) ≡ 11
-    unfolding questions firstNo
-    request-zero p = rw (lt-ltb n (length t) there, lt-leb 1 v (omega arith))
+    request-zero p = rw p (value-zero h t n there d)
 
-    module _ (above : 1 ≤ v) where
-      pub request-high : len (at t n) < v → firstNo (questions h t (Command.Request n v d)) ≡ 11
+    module _ (above : 1 ≤ v) (within : v ≤ len (at t n)) where
+      pub request-none : d ≡ 0 → firstNo (questions h t (Command.Request n v d)) ≡ 12
       unfolding questions firstNo
-      request-high p = rw (lt-ltb n (length t) there, le-leb 1 v above, lt-leb v (len (at t n)) p)
+      request-none p = rw (lt-ltb n (length t) there, le-leb 1 v above, le-leb v (len (at t n)) within, lt-leb 1 d (omega arith))
 
-      module _ (within : v ≤ len (at t n)) where
-        pub request-none : d ≡ 0 → firstNo (questions h t (Command.Request n v d)) ≡ 12
+      module _ (some : 1 ≤ d) where
+        pub request-many : 3 < d → firstNo (questions h t (Command.Request n v d)) ≡ 12
         unfolding questions firstNo
-        request-none p = rw (lt-ltb n (length t) there, le-leb 1 v above, le-leb v (len (at t n)) within, lt-leb 1 d (omega arith))
-
-        module _ (some : 1 ≤ d) where
-          pub request-many : 3 < d → firstNo (questions h t (Command.Request n v d)) ≡ 12
-          unfolding questions firstNo
-          request-many p = rw (lt-ltb n (length t) there, le-leb 1 v above, le-leb v (len (at t n)) within, le-leb 1 d some, lt-leb d 3 p)
-
-          pub request-right : d ≤ 3 → firstNo (questions h t (Command.Request n v d)) ≡ 0
-          unfolding questions firstNo
-          request-right p = rw (lt-ltb n (length t) there, le-leb 1 v above, le-leb v (len (at t n)) within, le-leb 1 d some, le-leb d 3 p)
+        request-many p = rw (lt-ltb n (length t) there, le-leb 1 v above, le-leb v (len (at t n)) within, le-leb 1 d some, lt-leb d 3 p)
 
 -- ---- one side
 

@@ -65,10 +65,12 @@ module _ {c : ℕ} {m : Memory} (s : State) {u : State} (fits : length (bytes (s
   pub over-settled : settled (length (bytes (s .log))) (buffer (m .log) (m .out .cursor)) ≡ filled c (bytes (s .log))
   over-settled = ⊎-elim after-s before-s (begins (x .written) (x .rest) (s .log) more (sym (x .split) ∙ grown))
     where
-      before-s : ((y : List Record) × (s .log ≡ x .written ++ y)) → settled (length (bytes (s .log))) (buffer (m .log) (m .out .cursor)) ≡ filled c (bytes (s .log))
+      before-s : ((y : List Record) × (s .log ≡ x .written ++ y))
+          → settled (length (bytes (s .log))) (buffer (m .log) (m .out .cursor)) ≡ filled c (bytes (s .log))
       before-s i = absurd (omega (arith, fits, written-over x full, bytes-length (x .written) (i .0), ap (λ (l : List Record). length (bytes l)) (i .1)))
 
-      after-s : ((y : List Record) × (x .written ≡ s .log ++ y)) → settled (length (bytes (s .log))) (buffer (m .log) (m .out .cursor)) ≡ filled c (bytes (s .log))
+      after-s : ((y : List Record) × (x .written ≡ s .log ++ y))
+          → settled (length (bytes (s .log))) (buffer (m .log) (m .out .cursor)) ≡ filled c (bytes (s .log))
       after-s i =
           let ns : List ℕ = flatMap numbers (s .log) in
           let ms : List ℕ = flatMap numbers (i .0) in

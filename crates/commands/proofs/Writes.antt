@@ -32,7 +32,8 @@ use Rattle.commands.proofs.Ends.{ends}
 abbrev Grown : State → State → Type 0
 Grown s u = (more : List Record) × (u .log ≡ s .log ++ more)
 
-grown-more : (s : State) (log : List Record) (rs : List Record) → ((more : List Record) × (log ≡ s .log ++ more)) → (more : List Record) × (log ++ rs ≡ s .log ++ more)
+grown-more : (s : State) (log : List Record) (rs : List Record) → ((more : List Record) × (log ≡ s .log ++ more))
+    → (more : List Record) × (log ++ rs ≡ s .log ++ more)
 grown-more s log rs g = (g .0 ++ rs, ap (λ (l : List Record). l ++ rs) (g .1) ∙ append-assoc (s .log) (g .0) rs)
 
 module _ (t : List Node) (sized : Sized t) (n v d : ℕ) (f : RequestFits t n v d) (s : State) where
@@ -133,7 +134,8 @@ module _ {h : Head} {c : ℕ} {ns ls os held firsts ks log : List ℕ} {z : Tota
   unfolding questions firstNo
   close-asked = refl
 
-  pub close-ends : (log′ : List ℕ) (o : Out) → Puts (buffer log (z .out .cursor)) (4 ∷ z .out .stored ∷ take (z .out .stored) ks) (buffer log′ (o .cursor))
+  pub close-ends : (log′ : List ℕ) (o : Out)
+      → Puts (buffer log (z .out .cursor)) (4 ∷ z .out .stored ∷ take (z .out .stored) ks) (buffer log′ (o .cursor))
       → o .step ≡ z .out .step → o .stored ≡ z .out .stored → o .clauses ≡ z .out .clauses
       → (e : Ended) (log″ : List ℕ) → e ≡ endedAs z o → log″ ≡ settled (z .out .cursor .at) (buffer log′ (o .cursor)) .log
       → Played h c Command.Close s ns ls os held firsts ks log″ e

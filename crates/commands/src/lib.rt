@@ -5,10 +5,10 @@ use record::Cursor;
 use totdb::Side;
 ghost use mathlib.Core.Path.{_≡_};
 ghost use mathlib.Core.List.{List};
-ghost use Prim.Native.Nat.{ℕ, _+_, _*_, _≤_, _<_};
+ghost use Prim.Native.Nat.{ℕ, _≤_};
 ghost use lib.ListN.{length};
 ghost use Rattle.record.specs.Writing.{buffer, Puts, settled};
-ghost use Rattle.totdb.specs.Nodes.{Node, leaf, len};
+ghost use Rattle.totdb.specs.Nodes.{Node};
 ghost use Rattle.cert.specs.State.{State, Head};
 ghost use Rattle.define.specs.Tables.{memory};
 ghost use Rattle.request.specs.Rows.{Rows};
@@ -133,6 +133,7 @@ fn ask_join(nodes: &[u32], count: usize, l: Side, r: Side) -> u32
     0
 }
 
+// Questions 8 to 10, then a new join.
 fn join(
     nodes: &mut [u32],
     leaves: &mut [u32],
@@ -219,6 +220,7 @@ fn ask_request(nodes: &[u32], count: usize, node: usize, value: usize, direction
     0
 }
 
+// Questions 8, 11 and 12, then all that the request writes, and question 14.
 fn request(
     nodes: &[u32],
     leaves: &[u32],
@@ -275,7 +277,7 @@ fn put_all(log: &mut [u8], c: Cursor, l: &[u32]) -> Cursor
     d
 }
 
-// Every stored definition's steps, ascending.
+// The deletion of every stored definition's steps, ascending, and question 14.
 fn close(steps: &[u32], log: &mut [u8], t: Totals) -> Ended
     requires { ⌜ ((ns ls os held firsts : List ℕ) × Ready ns ls os held firsts (now steps) (now log) t) ⌝ }
     ensures { λ r. ⌜ ((h : Head) (c : ℕ) (ns ls os held firsts : List ℕ) (s : State)
@@ -297,6 +299,7 @@ fn close(steps: &[u32], log: &mut [u8], t: Totals) -> Ended
     end(log, t, o)
 }
 
+// A command: refused at the first question that fails, with the log as it was, or done.
 pub fn command(
     nodes: &mut [u32],
     leaves: &mut [u32],

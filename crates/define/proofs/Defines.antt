@@ -7,7 +7,7 @@ use Prim.Native.Nat.{ℕ, _+_, _*_, _≤_}
 use native.Mathlib.Omega.{arith}
 use lib.ListN.{length, getD, take, set, length-set}
 use lib.Seq.{getD-set-same, getD-set-other}
-use Rattle.record.specs.Record.{Record, numbers, steps, clauses}
+use Rattle.record.specs.Record.{Record, numbers, steps}
 use Rattle.record.specs.Writing.{buffer, filled, puts, Puts}
 use Rattle.record.specs.declared.Cursor.{Cursor}
 use Rattle.record.proofs.Bytes.{two-bytes}

@@ -81,7 +81,8 @@ module _ {c : ℕ} {t : List Node} {m : Memory} {s : State} (ex : Exact c t m s)
 
 -- ---- the code of a lookup
 
-pub full-defines : {ls os : List ℕ} {Q : List Node → State → Type 0} (k : Key) (m : Memory) → m .out .cursor .full ≡ true → DoesFrom ls os Q (λ t s. define t k s) m m
+pub full-defines : {ls os : List ℕ} {Q : List Node → State → Type 0} (k : Key) (m : Memory) → m .out .cursor .full ≡ true
+    → DoesFrom ls os Q (λ t s. define t k s) m m
 full-defines k m h = record { does = λ c t s l p st. by c t s st }
   where
     by : (c : ℕ) (t : List Node) (s : State) → StandsFor c t m s → StandsFor c t m (define t k s)

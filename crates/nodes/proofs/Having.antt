@@ -11,6 +11,7 @@ use lib.Dec.{eqb}
 use lib.ListN.{length, getD, take, drop}
 use lib.Seq.{take-all, getD-take, getD-drop}
 use Rattle.totdb.specs.Nodes.{Node, leaf, join, at, leaves, len, any, leafOf, isOver}
+use Rattle.cert.proofs.Distinct.{or-right}
 use Rattle.define.specs.Tables.{Row, Lists}
 use Rattle.request.specs.Rows.{RowOf, Rows}
 
@@ -42,11 +43,7 @@ module _ (f : Node → Bool) where
   unfolding any at
   one-of [] n p h = absurd (omega arith)
   one-of (a ∷ t) zero p h = rw p
-  one-of (a ∷ t) (suc n) p h = by (f a) (one-of t n p (omega arith))
-    where
-      by : (b : Bool) → any f t ≡ true → (b || any f t) ≡ true
-      by true e = refl
-      by false e = e
+  one-of (a ∷ t) (suc n) p h = or-right (f a) (any f t) (one-of t n p (omega arith))
 
 -- ---- leaves
 

@@ -36,7 +36,7 @@ limit-within zero m = omega arith
 limit-within (suc k) m = omega arith
 
 -- A side of the table, by the length that the table has of its node.
-pub record Side-in (ns ls os : List ℕ) (t : List Node) (s : Side) : Type 0 where
+pub record SideRead (ns ls os : List ℕ) (t : List Node) (s : Side) : Type 0 where
   pub node : s .node < 319
   pub own : lengthOver s (getD ns (8 * s .node) 0) ≡ sideLen t s
   pub within : s .offset + lengthOver s (getD ns (8 * s .node) 0) ≤ 64
@@ -45,7 +45,7 @@ pub record Side-in (ns ls os : List ℕ) (t : List Node) (s : Side) : Type 0 whe
   pub count : length (sideLeaves t s) ≡ sideLen t s
 
 side-in : (ns ls os : List ℕ) (t : List Node) (s : Side) → Rows ns t → Lists ls os t → s .node < length t
-    → s .offset + sideLen t s ≤ len (at t (s .node)) → Side-in ns ls os t s
+    → s .offset + sideLen t s ≤ len (at t (s .node)) → SideRead ns ls os t s
 unfolding sideLen sideLeaves sideOutputs literalsIn
 side-in ns ls os t s rows lists h k =
     let e : getD ns (8 * s .node) 0 ≡ len (at t (s .node)) = len-in ns t (s .node) rows h in
@@ -67,10 +67,10 @@ side-in ns ls os t s rows lists h k =
     }
 
 module _ (ns ls os : List ℕ) (t : List Node) (n v : ℕ) (l r : Side) (j : Joinable ns ls os t n v l r) where
-  pub left-in : Side-in ns ls os t l
+  pub left-in : SideRead ns ls os t l
   left-in = side-in ns ls os t l (j .rows) (j .lists) (j .left) (j .left-in)
 
-  pub right-in : Side-in ns ls os t r
+  pub right-in : SideRead ns ls os t r
   right-in = side-in ns ls os t r (j .rows) (j .lists) (j .right) (j .right-in)
 
   pub sum-short : lengthOver l (getD ns (8 * l .node) 0) + lengthOver r (getD ns (8 * r .node) 0) ≤ 64

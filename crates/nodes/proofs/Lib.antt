@@ -1,4 +1,4 @@
--- What the code of the tables rests on.
+-- Laws of the tables of the nodes.
 pub mod Sides
 pub mod Adding
 pub mod Copying

@@ -1,6 +1,6 @@
 -- The sides of a table with one node more: each node is still under one side at most.
 use mathlib.Core.Path.{_≡_, refl, sym, _∙_, ap, subst}
-use mathlib.Core.Bool.{Bool, true, false, _||_}
+use mathlib.Core.Bool.{true, false}
 use mathlib.Core.Logic.{_≢_, _⊎_, inl, inr, ⊎-elim}
 use mathlib.Core.List.{List, [], _∷_, _++_}
 use Prim.Native.Nat.{ℕ}
@@ -9,7 +9,7 @@ use borrow.Author.Tests.{eq-eqb}
 use lib.Dec.{eqb}
 use Rattle.totdb.specs.Nodes.{Node, leaf, join, taken, isOver}
 use Rattle.totdb.specs.declared.Side.{Side}
-use Rattle.cert.proofs.Distinct.{true≢false}
+use Rattle.cert.proofs.Distinct.{true≢false, or-right}
 use Rattle.cert.proofs.Tables.{old-or-new, over-left}
 use Rattle.define.specs.Tables.{SideOf, left-of, right-of}
 use Rattle.nodes.proofs.Having.{one-of}
@@ -19,12 +19,8 @@ unfolding taken
 taken-of t s (left-of n ls o r h e) = one-of (isOver (s .node)) t n (ap (isOver (s .node)) e ∙ over-left ls o s r) h
 taken-of t s (right-of n ls o l h e) = one-of (isOver (s .node)) t n (ap (isOver (s .node)) e ∙ over) h
   where
-    by : (b : Bool) → (b || true) ≡ true
-    by true = refl
-    by false = refl
-
     over : isOver (s .node) (join ls o l s) ≡ true
-    over = unfold isOver in rw (eq-eqb (s .node) (s .node) refl) (by (eqb (l .node) (s .node)))
+    over = unfold isOver in or-right (eqb (l .node) (s .node)) (eqb (s .node) (s .node)) (eq-eqb (s .node) (s .node) refl)
 
 -- A side of one node.
 pub data SideIs (a : Node) (s : Side) : Type 0 where

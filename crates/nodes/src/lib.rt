@@ -73,6 +73,7 @@ fn copy_side<'a>(
     at + len
 }
 
+// The first `len` literals of a row, as the leaf list of a node.
 fn copy_row(leaves: &mut [u32], node: usize, row: &[u32], len: usize)
     requires { ⌜ (length (now leaves) ≡ 20416) × (length (now row) ≡ 64) × (node < 319) × (len ≤ 64) ⌝ }
     ensures { λ _. ⌜ now (leaves .exit) ≡ paste (now (leaves .entry)) (64 * node) (now (row .entry)) len ⌝ }
@@ -92,6 +93,7 @@ fn reserve(outputs: &mut [u32], node: usize, variable: u32, len: usize)
     }
 }
 
+// A side's numbers, from `at` on.
 fn put_side(nodes: &mut [u32], at: usize, s: Side)
     requires { ⌜ (length (now nodes) ≡ 2552) × (at + 3 ≤ 2552) × Small s ⌝ }
     ensures { λ _. ⌜ (length (now (nodes .exit)) ≡ 2552) × (now (nodes .exit) ≡ sets (now (nodes .entry)) at (sideRow s)) ⌝ }
@@ -101,6 +103,7 @@ fn put_side(nodes: &mut [u32], at: usize, s: Side)
     nodes[at + 2] = s.limit as u32;
 }
 
+// A join's row of the table of the nodes.
 fn put_join(nodes: &mut [u32], node: usize, len: usize, l: Side, r: Side)
     requires { ⌜ (length (now nodes) ≡ 2552) × (node < 319) × (len ≤ 64) × Small l × Small r ⌝ }
     ensures { λ _. ⌜ now (nodes .exit) ≡ sets (now (nodes .entry)) (8 * node) (joinRow len l r) ⌝ }

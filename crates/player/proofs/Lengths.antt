@@ -93,7 +93,7 @@ outside t s (whole e f) =
     last-no false = refl
 
 module _ (h : Head) (t : List Node) (l r : Side) (free : Free t l r) where
-  asked-ten : firstNo (questions h t (Command.Join l r)) ≡ firstNo (ask 10 (sideFits t l && sideFits t r) ∷ [])
+  pub asked-ten : firstNo (questions h t (Command.Join l r)) ≡ firstNo (ask 10 (sideFits t l && sideFits t r) ∷ [])
   unfolding questions firstNo
   asked-ten =
       let left : ltb (l .node) (length t) ≡ true = lt-ltb (l .node) (length t) (free .left) in

@@ -92,7 +92,8 @@ module _ {h : Head} {c : ℕ} {script : List ℕ} {cs : Commands} {ns ls os held
           → Going h c script cs ns′ ls′ os′ held′ firsts′ ks′ log′ (x .totals) e place′ closed′
       goes-on zero-number place′ a closed′ b = by p
         where
-          by : Played h c k (g .state) ns′ ls′ os′ held′ firsts′ ks′ log′ x → Going h c script cs ns′ ls′ os′ held′ firsts′ ks′ log′ (x .totals) e place′ closed′
+          by : Played h c k (g .state) ns′ ls′ os′ held′ firsts′ ks′ log′ x
+              → Going h c script cs ns′ ls′ os′ held′ firsts′ ks′ log′ (x .totals) e place′ closed′
           by (went u q n st) = record {
             state = u;
             standing = st;

@@ -2,4 +2,6 @@
 pub mod Next
 pub mod Going
 pub mod Begin
+pub mod Heads
+pub mod Answered
 pub mod Fills

@@ -1,56 +1,17 @@
 -- What stands at a place of a script, and the commands from there on.
 use mathlib.Core.Path.{_≡_, refl, sym, _∙_, ap}
-use mathlib.Core.Bool.{Bool, true, false}
+use mathlib.Core.Bool.{Bool}
 use mathlib.Core.List.{List, [], _∷_}
 use Prim.Native.Nat.{ℕ, zero, suc, _+_, _-_, _≤_, _<_}
 use native.Mathlib.Omega.{arith}
 use lib.ListN.{length, drop, length-append, length-drop}
 use lib.Seq.{drop-append-seam, drop-drop}
-use Rattle.number.specs.Number.{number, bad, read, Front}
 use Rattle.player.specs.Places.{placed, nextAt}
-use Rattle.player.specs.Script.{Next, command, refuse, end, get, arguments, readCommand, closes, stop, before, readCommands}
+use Rattle.player.specs.Script.{Next, command, refuse, end, readCommand, closes, stop, before, readCommands}
 use Rattle.player.specs.declared.Command.{Command}
 use Rattle.player.specs.declared.CommandReading.{CommandReading}
+use Rattle.player.proofs.Coding.{refused-number}
 use Rattle.player.proofs.Reading.{command-front}
-
--- ---- the number of a refusal is not 0
-
-abbrev Numbered : Next → Type 0
-Numbered x = (n : ℕ) → x ≡ refuse n → 0 < n
-
-command-numbered : (c : Command) (r : List ℕ) → Numbered (command c r)
-command-numbered c r n e = absurd (let z : _≡_ {A = ℕ} 0 1 = cc in omega arith)
-
-refuse-numbered : (m : ℕ) → 0 < m → Numbered (refuse m)
-refuse-numbered m h n e = let p : m ≡ n = cc in omega arith
-
-get-numbered : (bs : List ℕ) (f : ℕ → List ℕ → Next) → ((x : ℕ) (r : List ℕ) → Numbered (f x r)) → Numbered (get bs f)
-unfolding get
-get-numbered bs f h = by (read bs)
-  where
-    by : (t : Front) → Numbered (elim t [ number x rest ↦ f x rest | bad ↦ refuse 2 ])
-    by (number x r) = h x r
-    by bad = refuse-numbered 2 (omega arith)
-
-arguments-numbered : (c : ℕ) (bs : List ℕ) → Numbered (arguments c bs)
-unfolding arguments
-arguments-numbered zero bs = refuse-numbered 5 (omega arith)
-arguments-numbered (suc zero) bs = get-numbered bs _ (λ l r. command-numbered _ r)
-arguments-numbered (suc (suc zero)) bs =
-    get-numbered bs _ (λ n r. get-numbered r _ (λ f r. get-numbered r _ (λ k r.
-    get-numbered r _ (λ n r. get-numbered r _ (λ f r. get-numbered r _ (λ k r. command-numbered _ r))))))
-arguments-numbered (suc (suc (suc zero))) bs = get-numbered bs _ (λ n r. get-numbered r _ (λ v r. get-numbered r _ (λ d r. command-numbered _ r)))
-arguments-numbered (suc (suc (suc (suc zero)))) bs = command-numbered _ bs
-arguments-numbered (suc (suc (suc (suc (suc c))))) bs = refuse-numbered 5 (omega arith)
-
-code-numbered : (closed : Bool) (c : ℕ) (r : List ℕ) → Numbered (elim closed [ true ↦ refuse 4 | false ↦ arguments c r ])
-code-numbered true c r = refuse-numbered 4 (omega arith)
-code-numbered false c r = arguments-numbered c r
-
-next-numbered : (closed : Bool) (bs : List ℕ) → Numbered (readCommand closed bs)
-unfolding readCommand
-next-numbered closed [] n e = absurd (let z : _≡_ {A = ℕ} 0 1 = cc in omega arith)
-next-numbered closed (b ∷ bs) n e = get-numbered (b ∷ bs) _ (code-numbered closed) n e
 
 -- ---- the reading at a place, taken back
 
@@ -67,7 +28,8 @@ module _ (s : List ℕ) where
   placed-refuse (refuse m) n e = let p : m ≡ n = cc in ap refuse p
   placed-refuse end n e = absurd (let z : _≡_ {A = ℕ} 0 1 = cc in omega arith)
 
-  placed-command : (x : Next) (c : Command) (e : ℕ) → placed s x ≡ CommandReading.Command c e → (r : List ℕ) × (x ≡ command c r) × (e ≡ length s - length r)
+  placed-command : (x : Next) (c : Command) (e : ℕ) → placed s x ≡ CommandReading.Command c e
+      → (r : List ℕ) × (x ≡ command c r) × (e ≡ length s - length r)
   unfolding placed
   placed-command (command d r) c e h =
       let p : d ≡ c = cc in
@@ -92,7 +54,7 @@ module _ (s : List ℕ) (closed : Bool) (at fuel : ℕ) (inside : at ≤ length 
 
   pub rest-refuse : (n : ℕ) → nextAt closed s at ≡ CommandReading.Refuse n → (readCommands fuel closed (drop at s) ≡ stop n) × (0 < n)
   unfolding readCommands
-  rest-refuse n e = (by fuel enough, next-numbered closed (drop at s) n is)
+  rest-refuse n e = (by fuel enough, refused-number closed (drop at s) n is .0)
     where
       is : readCommand closed (drop at s) ≡ refuse n
       is = placed-refuse s (readCommand closed (drop at s)) n e

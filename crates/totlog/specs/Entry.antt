@@ -23,7 +23,7 @@ le32 x = (x % 256) ∷ (x / 256 % 256) ∷ (x / 65536 % 256) ∷ (x / 16777216) 
 abbrev pub bytesOf : Answer → List ℕ
 bytesOf a = le32 (a .number) ++ (le32 (a .place) ++ (le32 (a .length) ++ (le32 (a .steps) ++ (le32 (a .clauses) ++ le32 (a .nodes)))))
 
--- l as far as n bytes reach, zeros after
+-- l as far as n bytes reach, zeros after it.
 abbrev pub padded : ℕ → List ℕ → List ℕ
 padded n l = take n (l ++ replicate n 0)
 

@@ -4,7 +4,9 @@ use mathlib.Core.Path.{refl, _∙_}
 use Rattle.define.proofs.Does.{does-full}
 use Rattle.clauses.specs.Joins.{ClauseIn, clauseOf}
 use Rattle.clauses.proofs.Standing.{write-grows, does-write, firsts-of}
-use Rattle.clauses.proofs.Joins.{clause-puts, this-read, side-there, left-in, right-in}
+use Rattle.clauses.proofs.Joins.{this-read, left-in, right-in}
+use Rattle.clauses.proofs.Lacking.{side-there}
+use Rattle.clauses.proofs.Written.{clause-puts}
 use Rattle.clauses.proofs.put_clause.Statement.{statement}
 use Rattle.clauses.proofs.put_clause.Tie as tie
 

@@ -4,7 +4,8 @@ use mathlib.Core.Bool.{not}
 use Rattle.define.specs.Tables.{direction}
 use Rattle.define.proofs.Does.{shown-to}
 use Rattle.clauses.proofs.Standing.{sizes-kept}
-use Rattle.clauses.proofs.Joins.{left-in, right-in, this-in, clause-reach, does-clause}
+use Rattle.clauses.proofs.Joins.{left-in, right-in, this-in, clause-reach}
+use Rattle.clauses.proofs.Written.{does-clause}
 use Rattle.clauses.proofs.write_clause.Statement.{statement}
 use Rattle.clauses.proofs.write_clause.Tie as tie
 

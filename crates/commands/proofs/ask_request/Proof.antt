@@ -4,7 +4,8 @@ use Prim.Native.Nat.{_*_}
 use native.Mathlib.Omega.{arith}
 use borrow.Author.Needs.{needs}
 use Rattle.nodes.proofs.Placing.{len-in}
-use Rattle.commands.proofs.Questions.{request-8, request-zero, request-high, request-none, request-many, request-right}
+use Rattle.player.proofs.Lengths.{value-above, value-within}
+use Rattle.commands.proofs.Questions.{request-8, request-zero, request-none, request-many}
 use Rattle.commands.proofs.ask_request.Statement.{statement}
 use Rattle.commands.proofs.ask_request.Tie as tie
 
@@ -30,7 +31,7 @@ returns-3 : tie.Need-returns-3
 returns-3 c = λ h t r e.
     let a = c .before .before .before .before .args in
     let k = len-in (a .nodes .now) t (a .node) r (omega arith) in
-    sym (request-high h t (a .node) (a .value) (a .direction) (omega arith) (omega arith) (omega arith))
+    sym (value-above h t (a .node) (omega arith) (a .value) (a .direction) (omega arith))
 
 returns-4 : tie.Need-returns-4
 returns-4 c = λ h t r e.
@@ -48,7 +49,7 @@ returns-6 : tie.Need-returns-6
 returns-6 c = λ h t r e.
     let a = c .before .before .before .before .before .before .args in
     let k = len-in (a .nodes .now) t (a .node) r (omega arith) in
-    sym (request-right h t (a .node) (a .value) (a .direction) (omega arith) (omega arith) (omega arith) (omega arith) (omega arith))
+    sym (value-within h t (a .node) (omega arith) (a .value) (a .direction) (omega arith) (omega arith) (omega arith) (omega arith))
 
 pub ask-request-spec : {M : Type 1} → statement M
 ask-request-spec =

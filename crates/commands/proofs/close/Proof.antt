@@ -40,10 +40,14 @@ same-length c = search needs
 
 returns : tie.Need-returns
 returns c =
+    let put-all-at = c .before .before .before .before .before .before in
+    let put2-at = put-all-at .before .before .before .before .before in
+    let put-at = put2-at .before .before .before .before in
+    let start = put-at .before .before .before .before .before .before in
     λ h p ns ls os held firsts s st.
-    let a = c .before .before .before .before .before .before .before .before .before .before .before .before .before .before .before .before .before .before .before .before .before .args in
+    let a = start .args in
     close-ends st _ _
-    (after (c .before .before .before .before .before .before .before .before .before .before .before .before .before .before .before .put .ensures) (after (c .before .before .before .before .before .before .before .before .before .before .before .put2 .ensures) (c .before .before .before .before .before .before .put-all .ensures))) refl refl refl _ _ (c .before .before .end .ensures .0) (c .before .before .end .ensures .1)
+    (after (put-at .put .ensures) (after (put2-at .put2 .ensures) (put-all-at .put-all .ensures))) refl refl refl _ _ (c .before .before .end .ensures .0) (c .before .before .end .ensures .1)
 
 pub close-spec : {M : Type 1} → statement M
 close-spec =

@@ -8,16 +8,18 @@ enum-known-k c = search needs
 
 leaf-requires : tie.Need-leaf-requires
 leaf-requires c κs =
-    let a = c .before .before .before .before .before .before .before .before .before .before .before .before .before .args in
-    record { held = a .held .now; firsts = a .firsts .now; steps = a .steps .now; log = a .log .now; ready = c .before .before .before .before .before .before .before .before .before .before .before .before .before .pre }
+    let start = c .before .before .before .before .before .before .before .before .before .before .before .before .before in
+    let a = start .args in
+    record { held = a .held .now; firsts = a .firsts .now; steps = a .steps .now; log = a .log .now; ready = start .pre }
 
 enum-known-k-2 : tie.Need-enum-known-k-2
 enum-known-k-2 c = search needs
 
 join-requires : tie.Need-join-requires
 join-requires c κs =
-    let a = c .before .before .before .before .before .before .before .before .before .before .before .before .before .args in
-    record { held = a .held .now; firsts = a .firsts .now; steps = a .steps .now; log = a .log .now; ready = c .before .before .before .before .before .before .before .before .before .before .before .before .before .pre }
+    let start = c .before .before .before .before .before .before .before .before .before .before .before .before .before in
+    let a = start .args in
+    record { held = a .held .now; firsts = a .firsts .now; steps = a .steps .now; log = a .log .now; ready = start .pre }
 
 enum-known-k-3 : tie.Need-enum-known-k-3
 enum-known-k-3 c = search needs
@@ -30,8 +32,9 @@ enum-told c = search needs
 
 close-requires : tie.Need-close-requires
 close-requires c κs =
-    let a = c .before .before .before .before .before .before .before .before .before .before .before .args in
-    (a .nodes .now, a .leaves .now, a .outputs .now, a .held .now, a .firsts .now, c .before .before .before .before .before .before .before .before .before .before .before .pre)
+    let start = c .before .before .before .before .before .before .before .before .before .before .before in
+    let a = start .args in
+    (a .nodes .now, a .leaves .now, a .outputs .now, a .held .now, a .firsts .now, start .pre)
 
 same-length : tie.Need-same-length
 same-length c = search needs
@@ -44,9 +47,12 @@ same-length-3 c = search needs
 
 returns : tie.Need-returns
 returns c =
+    let leaf-at = c .before .before .before .before .before .before in
+    let k-at = leaf-at .before .before .before .before .before in
+    let start = k-at .before .before .before .before .before .before .before .before .before in
     λ h p s e st.
-    let a = c .before .before .before .before .before .before .before .before .before .before .before .before .before .before .before .before .before .before .before .before .args in
-    rw (c .before .before .before .before .before .before .before .before .before .before .before .k .given .1) (c .before .before .before .before .before .before .leaf .ensures h p (a .held .now) (a .firsts .now) (a .steps .now) (a .log .now) s e st)
+    let a = start .args in
+    rw (k-at .k .given .1) (leaf-at .leaf .ensures h p (a .held .now) (a .firsts .now) (a .steps .now) (a .log .now) s e st)
 
 same-length-4 : tie.Need-same-length-4
 same-length-4 c = search needs
@@ -59,9 +65,12 @@ same-length-6 c = search needs
 
 returns-2 : tie.Need-returns-2
 returns-2 c =
+    let join-at = c .before .before .before .before .before .before in
+    let k2-at = join-at .before .before .before .before .before in
+    let start = k2-at .before .before .before .before .before .before .before .before .before in
     λ h p s e st.
-    let a = c .before .before .before .before .before .before .before .before .before .before .before .before .before .before .before .before .before .before .before .before .args in
-    rw (c .before .before .before .before .before .before .before .before .before .before .before .k2 .given .1) (c .before .before .before .before .before .before .join .ensures h p (a .held .now) (a .firsts .now) (a .steps .now) (a .log .now) s st)
+    let a = start .args in
+    rw (k2-at .k2 .given .1) (join-at .join .ensures h p (a .held .now) (a .firsts .now) (a .steps .now) (a .log .now) s st)
 
 same-length-7 : tie.Need-same-length-7
 same-length-7 c = search needs
@@ -86,8 +95,10 @@ same-length-13 c = search needs
 
 returns-3 : tie.Need-returns-3
 returns-3 c =
+    let request-at = c .before .before .before .before .before .before .before .before in
+    let k3-at = request-at .before .before .before .before .before .before .before .before .before in
     λ h p s e st.
-    rw (c .before .before .before .before .before .before .before .before .before .before .before .before .before .before .before .before .before .k3 .given .1) (c .before .before .before .before .before .before .before .before .request .ensures h p s st)
+    rw (k3-at .k3 .given .1) (request-at .request .ensures h p s st)
 
 same-length-14 : tie.Need-same-length-14
 same-length-14 c = search needs
@@ -97,9 +108,11 @@ same-length-15 c = search needs
 
 returns-4 : tie.Need-returns-4
 returns-4 c =
+    let enum-told-at = c .before .before .before .before .before in
+    let start = enum-told-at .before .before .before .before .before .before .before .before .before in
     λ h p s e st.
-    let a = c .before .before .before .before .before .before .before .before .before .before .before .before .before .before .args in
-    rw (c .before .before .before .before .before .enum-told .given .1) (c .before .before .close .ensures h p (a .nodes .now) (a .leaves .now) (a .outputs .now) (a .held .now) (a .firsts .now) s st)
+    let a = start .args in
+    rw (enum-told-at .enum-told .given .1) (c .before .before .close .ensures h p (a .nodes .now) (a .leaves .now) (a .outputs .now) (a .held .now) (a .firsts .now) s st)
 
 pub command-spec : {M : Type 1} → statement M
 command-spec =

@@ -24,10 +24,12 @@ returns c =
 
 add-join-requires : tie.Need-add-join-requires
 add-join-requires c κs =
-    let a = c .before .before .before .before .before .before .before .before .before .args in
-    let ready = c .before .before .before .before .before .before .before .before .before .pre .ready in
+    let ask-join-at = c .before .before .before .before in
+    let start = ask-join-at .before .before .before .before .before in
+    let a = start .args in
+    let ready = start .pre .ready in
     let st = ready .standing in
-    let asked = sym (c .before .before .before .before .ask-join .ensures (ready .head) (ready .state .nodes) (st .rows) (sym (st .nodes))) ∙ c .before .before .before .if1 .left in
+    let asked = sym (ask-join-at .ask-join .ensures (ready .head) (ready .state .nodes) (st .rows) (sym (st .nodes))) ∙ c .before .before .before .if1 .left in
     (ready .state .nodes, joinable st (a .l) (a .r) asked)
 
 add-t20 : tie.Need-add-t20
@@ -35,24 +37,32 @@ add-t20 c = search needs
 
 cast-t21 : tie.Need-cast-t21
 cast-t21 c =
-    let a = c .before .before .before .before .before .before .before .before .before .before .before .before .before .before .before .before .before .before .args in
-    let ready = c .before .before .before .before .before .before .before .before .before .before .before .before .before .before .before .before .before .before .pre .ready in
+    let add-join-at = c .before .before .before .before .before .before .before .before in
+    let if1-at = add-join-at .before .before .before .before in
+    let ask-join-at = if1-at .before in
+    let start = ask-join-at .before .before .before .before .before in
+    let a = start .args in
+    let ready = start .pre .ready in
     let st = ready .standing in
-    let asked = sym (c .before .before .before .before .before .before .before .before .before .before .before .before .before .ask-join .ensures (ready .head) (ready .state .nodes) (st .rows) (sym (st .nodes))) ∙ c .before .before .before .before .before .before .before .before .before .before .before .before .if1 .left in
+    let asked = sym (ask-join-at .ask-join .ensures (ready .head) (ready .state .nodes) (st .rows) (sym (st .nodes))) ∙ if1-at .if1 .left in
     let j = joinable st (a .l) (a .r) asked in
-    let e = c .before .before .before .before .before .before .before .before .add-join .ensures (ready .state .nodes) j .0 in
-    let k : c .before .before .before .before .before .before .before .before .add-join .result ≤ 64 = omega (arith, e, joined-short st (a .l) (a .r) asked (a .t .variable)) in
+    let e = add-join-at .add-join .ensures (ready .state .nodes) j .0 in
+    let k : add-join-at .add-join .result ≤ 64 = omega (arith, e, joined-short st (a .l) (a .r) asked (a .t .variable)) in
     omega (arith, k)
 
 add-t22 : tie.Need-add-t22
 add-t22 c =
-    let a = c .before .before .before .before .before .before .before .before .before .before .before .before .before .before .before .before .before .before .before .args in
-    let ready = c .before .before .before .before .before .before .before .before .before .before .before .before .before .before .before .before .before .before .before .pre .ready in
+    let add-join-at = c .before .before .before .before .before .before .before .before .before in
+    let if1-at = add-join-at .before .before .before .before in
+    let ask-join-at = if1-at .before in
+    let start = ask-join-at .before .before .before .before .before in
+    let a = start .args in
+    let ready = start .pre .ready in
     let st = ready .standing in
-    let asked = sym (c .before .before .before .before .before .before .before .before .before .before .before .before .before .before .ask-join .ensures (ready .head) (ready .state .nodes) (st .rows) (sym (st .nodes))) ∙ c .before .before .before .before .before .before .before .before .before .before .before .before .before .if1 .left in
+    let asked = sym (ask-join-at .ask-join .ensures (ready .head) (ready .state .nodes) (st .rows) (sym (st .nodes))) ∙ if1-at .if1 .left in
     let j = joinable st (a .l) (a .r) asked in
-    let e = c .before .before .before .before .before .before .before .before .before .add-join .ensures (ready .state .nodes) j .0 in
-    let k : c .before .before .before .before .before .before .before .before .before .add-join .result ≤ 64 = omega (arith, e, joined-short st (a .l) (a .r) asked (a .t .variable)) in
+    let e = add-join-at .add-join .ensures (ready .state .nodes) j .0 in
+    let k : add-join-at .add-join .result ≤ 64 = omega (arith, e, joined-short st (a .l) (a .r) asked (a .t .variable)) in
     omega (arith, k, j .low)
 
 same-length-2 : tie.Need-same-length-2
@@ -66,10 +76,14 @@ same-length-4 c = search needs
 
 returns-2 : tie.Need-returns-2
 returns-2 c =
+    let add-join-at = c .before .before .before .before .before .before .before .before .before in
+    let if1-at = add-join-at .before .before .before .before in
+    let ask-join-at = if1-at .before in
+    let start = ask-join-at .before .before .before .before .before in
     λ h p held firsts steps log s st.
-    let a = c .before .before .before .before .before .before .before .before .before .before .before .before .before .before .before .before .before .before .before .args in
-    let asked = sym (c .before .before .before .before .before .before .before .before .before .before .before .before .before .before .ask-join .ensures h (s .nodes) (st .rows) (sym (st .nodes))) ∙ c .before .before .before .before .before .before .before .before .before .before .before .before .before .if1 .left in
-    let added = c .before .before .before .before .before .before .before .before .before .add-join .ensures (s .nodes) (joinable st (a .l) (a .r) asked) in
+    let a = start .args in
+    let asked = sym (ask-join-at .ask-join .ensures h (s .nodes) (st .rows) (sym (st .nodes))) ∙ if1-at .if1 .left in
+    let added = add-join-at .add-join .ensures (s .nodes) (joinable st (a .l) (a .r) asked) in
     join-made st (a .l) (a .r) asked _ _ _ (added .1) (added .2) _ refl refl refl refl (ap (λ k. a .t .variable + k) (added .0))
 
 pub join-spec : {M : Type 1} → statement M

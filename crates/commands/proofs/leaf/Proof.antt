@@ -5,10 +5,11 @@ use native.Mathlib.Omega.{arith}
 use Rattle.pb.specs.Sum.{variable}
 use Rattle.player.specs.declared.Command.{Command}
 use Rattle.player.proofs.Formed.{head-low}
+use Rattle.player.proofs.Lengths.{leaves-few, leaves-full}
 use Rattle.player.proofs.Tree.{few-nodes}
 use Rattle.commands.proofs.Ends.{refused-early}
 use Rattle.commands.proofs.Making.{leaf-there, leaf-made}
-use Rattle.commands.proofs.Questions.{leaf-6, leaf-known, leaf-negated, leaf-many, leaf-new}
+use Rattle.commands.proofs.Questions.{leaf-6, leaf-known, leaf-negated}
 use borrow.Author.Needs.{needs}
 use Rattle.commands.proofs.leaf.Statement.{statement}
 use Rattle.commands.proofs.leaf.Tie as tie
@@ -49,9 +50,12 @@ same-length-4 c = search needs
 
 returns-3 : tie.Need-returns-3
 returns-3 c =
+    let if2-at = c .before .before .before .before .before in
+    let known-at = if2-at .before in
+    let start = known-at .before .before .before .before .before .before .before in
     λ h p held firsts steps log s e st.
-    let a = c .before .before .before .before .before .before .before .before .before .before .before .before .before .args in
-    let new = sym (c .before .before .before .before .before .before .known .ensures (a .outputs .now) (s .nodes) (st .rows) (st .lists) (sym (st .nodes))) ∙ c .before .before .before .before .before .if2 .left in
+    let a = start .args in
+    let new = sym (known-at .known .ensures (a .outputs .now) (s .nodes) (st .rows) (st .lists) (sym (st .nodes))) ∙ if2-at .if2 .left in
     let negated = sym (c .before .known2 .ensures (a .outputs .now) (s .nodes) (st .rows) (st .lists) (sym (st .nodes))) ∙ c .if3 .taken in
     refused-early st (Command.Leaf (a .literal)) 7 (omega arith)
     (leaf-negated h (s .nodes) (a .literal) (unfold variable in omega arith) new (rw (c .before .before .neg .ensures) at negated)) _ refl refl
@@ -64,12 +68,16 @@ same-length-6 c = search needs
 
 returns-4 : tie.Need-returns-4
 returns-4 c =
+    let neg-at = c .before .before .before .before in
+    let if2-at = neg-at .before .before .before in
+    let known-at = if2-at .before in
+    let start = known-at .before .before .before .before .before .before .before in
     λ h p held firsts steps log s e st.
-    let a = c .before .before .before .before .before .before .before .before .before .before .before .before .before .before .before .args in
-    let new = sym (c .before .before .before .before .before .before .before .before .known .ensures (a .outputs .now) (s .nodes) (st .rows) (st .lists) (sym (st .nodes))) ∙ c .before .before .before .before .before .before .before .if2 .left in
+    let a = start .args in
+    let new = sym (known-at .known .ensures (a .outputs .now) (s .nodes) (st .rows) (st .lists) (sym (st .nodes))) ∙ if2-at .if2 .left in
     let negated = sym (c .before .before .before .known2 .ensures (a .outputs .now) (s .nodes) (st .rows) (st .lists) (sym (st .nodes))) ∙ c .before .before .if3 .left in
     refused-early st (Command.Leaf (a .literal)) 7 (omega arith)
-    (leaf-many h (s .nodes) (a .literal) (unfold variable in omega arith) new (rw (c .before .before .before .before .neg .ensures) at negated) (omega (arith, st .leaves))) _ refl
+    (leaves-full h (s .nodes) (a .literal) (unfold variable in omega arith) new (rw (neg-at .neg .ensures) at negated) (omega (arith, st .leaves))) _ refl
     refl
 
 add-leaf-requires : tie.Need-add-leaf-requires
@@ -94,16 +102,25 @@ same-length-9 c = search needs
 
 returns-5 : tie.Need-returns-5
 returns-5 c =
+    let add-leaf-at = c .before .before .before .before .before .before .before .before in
+    let if4-at = add-leaf-at .before .before .before .before in
+    let if3-at = if4-at .before .before in
+    let known2-at = if3-at .before in
+    let neg-at = known2-at .before in
+    let if2-at = neg-at .before .before .before in
+    let known-at = if2-at .before in
+    let if1-at = known-at .before .before .before in
+    let start = if1-at .before .before .before .before in
     λ h p held firsts steps log s e st.
-    let a = c .before .before .before .before .before .before .before .before .before .before .before .before .before .before .before .before .before .before .before .before .before .before .before .before .before .before .before .args in
+    let a = start .args in
     let low = head-low h (st .formed .head) .0 in
-    let small : a .literal ≤ 2 ^ 30 = omega (arith, low, e, c .before .before .before .before .before .before .before .before .before .before .before .before .before .before .before .before .before .before .before .before .before .before .before .if1 .left) in
-    let below : variable (a .literal) < h .variable = unfold variable in omega (arith, e, c .before .before .before .before .before .before .before .before .before .before .before .before .before .before .before .before .before .before .before .before .before .before .before .if1 .left) in
-    let new = sym (c .before .before .before .before .before .before .before .before .before .before .before .before .before .before .before .before .before .before .before .before .known .ensures (a .outputs .now) (s .nodes) (st .rows) (st .lists) (sym (st .nodes))) ∙ c .before .before .before .before .before .before .before .before .before .before .before .before .before .before .before .before .before .before .before .if2 .left in
-    let negated = sym (c .before .before .before .before .before .before .before .before .before .before .before .before .before .before .before .known2 .ensures (a .outputs .now) (s .nodes) (st .rows) (st .lists) (sym (st .nodes))) ∙ c .before .before .before .before .before .before .before .before .before .before .before .before .before .before .if3 .left in
-    let added = c .before .before .before .before .before .before .before .before .add-leaf .ensures (s .nodes) (st .rows) (st .lists) (sym (st .nodes)) small in
+    let small : a .literal ≤ 2 ^ 30 = omega (arith, low, e, if1-at .if1 .left) in
+    let below : variable (a .literal) < h .variable = unfold variable in omega (arith, e, if1-at .if1 .left) in
+    let new = sym (known-at .known .ensures (a .outputs .now) (s .nodes) (st .rows) (st .lists) (sym (st .nodes))) ∙ if2-at .if2 .left in
+    let negated = sym (known2-at .known2 .ensures (a .outputs .now) (s .nodes) (st .rows) (st .lists) (sym (st .nodes))) ∙ if3-at .if3 .left in
+    let added = add-leaf-at .add-leaf .ensures (s .nodes) (st .rows) (st .lists) (sym (st .nodes)) small in
     leaf-made st (a .literal)
-    (leaf-new h (s .nodes) (a .literal) below new (rw (c .before .before .before .before .before .before .before .before .before .before .before .before .before .before .before .before .neg .ensures) at negated) (omega (arith, st .leaves, c .before .before .before .before .before .before .before .before .before .before .before .before .if4 .left))) new
+    (leaves-few h (s .nodes) (a .literal) below new (rw (neg-at .neg .ensures) at negated) (omega (arith, st .leaves, if4-at .if4 .left))) new
     _ _ _ (added .0) (added .1) _ refl refl refl refl refl
 
 pub leaf-spec : {M : Type 1} → statement M

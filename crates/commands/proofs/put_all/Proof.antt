@@ -36,8 +36,10 @@ loop-less c = search needs
 
 loop-again : tie.Need-loop-again Inv-loop μ-loop
 loop-again c =
-    let loop = c .before .before .before .before .before .before .loop in
-    let l = c .before .before .before .before .before .before .before .before .before .args .l .now in
+    let turn = c .before .before .before .before .before .before in
+    let start = turn .before .before .before in
+    let loop = turn .loop in
+    let l = start .args .l .now in
     (search needs, search needs, rw (add-one, take-suc l (loop .k) 0 (search needs)) (after (loop .inv .2) (c .before .before .put .ensures)))
 
 same-length : tie.Need-same-length Inv-loop μ-loop

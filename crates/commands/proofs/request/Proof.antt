@@ -20,10 +20,13 @@ returns c =
 
 request-requires : tie.Need-request-requires
 request-requires c κs =
-    let a = c .before .before .before .before .before .before .before .before .before .before .before .before .before .before .args in
-    let ready = c .before .before .before .before .before .before .before .before .before .before .before .before .before .before .pre in
+    let if1-at = c .before .before .before .before .before in
+    let ask-request-at = if1-at .before in
+    let start = ask-request-at .before .before .before .before .before .before .before .before in
+    let a = start .args in
+    let ready = start .pre in
     let st = ready .standing in
-    let asked = sym (c .before .before .before .before .before .before .ask-request .ensures (ready .head) (ready .state .nodes) (st .rows) (sym (st .nodes))) ∙ c .before .before .before .before .before .if1 .left in
+    let asked = sym (ask-request-at .ask-request .ensures (ready .head) (ready .state .nodes) (st .rows) (sym (st .nodes))) ∙ if1-at .if1 .left in
     let f = fitting st (a .node) (a .value) (a .direction) asked in (
       request-tables st (a .node) (a .value) (a .direction) asked,
       (request-shown st (a .node) (a .value) (a .direction) asked, (f .dir-low, f .dir-high)),
@@ -31,8 +34,9 @@ request-requires c κs =
 
 end-requires : tie.Need-end-requires
 end-requires c κs =
-    let a = c .before .before .before .before .before .before .before .before .before .before .before .before .before .before .before .before .before .before .before .before .before .before .before .before .args in
-    let ready = c .before .before .before .before .before .before .before .before .before .before .before .before .before .before .before .before .before .before .before .before .before .before .before .before .pre in
+    let start = c .before .before .before .before .before .before .before .before .before .before .before .before .before .before .before .before .before .before .before .before .before .before .before .before in
+    let a = start .args in
+    let ready = start .pre in
     omega (arith, at-within (ready .standing))
 
 same-length : tie.Need-same-length
@@ -49,10 +53,14 @@ same-length-4 c = search needs
 
 returns-2 : tie.Need-returns-2
 returns-2 c =
+    let request-at = c .before .before .before .before .before .before .before .before .before .before .before .before in
+    let if1-at = request-at .before .before .before .before .before .before in
+    let ask-request-at = if1-at .before in
+    let start = ask-request-at .before .before .before .before .before .before .before .before in
     λ h p s st.
-    let a = c .before .before .before .before .before .before .before .before .before .before .before .before .before .before .before .before .before .before .before .before .before .before .before .before .before .before .before .args in
-    let asked = sym (c .before .before .before .before .before .before .before .before .before .before .before .before .before .before .before .before .before .before .before .ask-request .ensures h (s .nodes) (st .rows) (sym (st .nodes))) ∙ c .before .before .before .before .before .before .before .before .before .before .before .before .before .before .before .before .before .before .if1 .left in
-    requested st (a .node) (a .value) (a .direction) asked _ _ _ _ _ (c .before .before .before .before .before .before .before .before .before .before .before .before .request .ensures) _ _ (c .before .before .end .ensures .0) (c .before .before .end .ensures .1)
+    let a = start .args in
+    let asked = sym (ask-request-at .ask-request .ensures h (s .nodes) (st .rows) (sym (st .nodes))) ∙ if1-at .if1 .left in
+    requested st (a .node) (a .value) (a .direction) asked _ _ _ _ _ (request-at .request .ensures) _ _ (c .before .before .end .ensures .0) (c .before .before .end .ensures .1)
 
 pub request-spec : {M : Type 1} → statement M
 request-spec =

@@ -31,8 +31,9 @@ abbrev μ-loop : tie.MeasureT-loop
 
 loop-holds : tie.Need-loop-holds Inv-loop μ-loop
 loop-holds c =
-    let a = c .before .before .before .before .before .before .before .before .args in (
-      c .before .before .before .before .before .before .before .before .pre .0 .1,
+    let entry = c .before .before .before .before .before .before .before .before in
+    let a = entry .args in (
+      entry .pre .0 .1,
       omega arith,
       refl,
       refl,
@@ -83,8 +84,10 @@ enum-known-reading c = search needs
 
 add-t22 : tie.Need-add-t22 Inv-loop μ-loop
 add-t22 c =
-    let l = c .before .before .before .before .loop in
-    omega (arith, l .inv .0, l .inv .1, c .before .before .before .before .before .before .before .before .before .before .before .before .before .pre .0 .0)
+    let turn = c .before .before .before .before in
+    let entry = turn .before .before .before .before .before .before .before .before .before in
+    let l = turn .loop in
+    omega (arith, l .inv .0, l .inv .1, entry .pre .0 .0)
 
 same-length-8 : tie.Need-same-length-8 Inv-loop μ-loop
 same-length-8 c = search needs
@@ -109,9 +112,11 @@ same-length-14 c = search needs
 
 returns-2 : tie.Need-returns-2 Inv-loop μ-loop
 returns-2 c =
+    let turn = c .before .before .before .before in
+    let entry = turn .before .before .before .before .before .before .before .before .before in
     λ h p st.
-    let l = c .before .before .before .before .loop in
-    let a = c .before .before .before .before .before .before .before .before .before .before .before .before .before .args in
+    let l = turn .loop in
+    let a = entry .args in
     stopped-reading (l .inv .0) (l .inv .9 h p st) _ (sym (c .before .before .before .next .ensures) ∙ c .before .reading .given .1) _ refl refl refl
 
 enum-known-reading-2 : tie.Need-enum-known-reading-2 Inv-loop μ-loop
@@ -119,88 +124,122 @@ enum-known-reading-2 c = search needs
 
 command-requires : tie.Need-command-requires Inv-loop μ-loop
 command-requires c κs =
-    let l = c .before .before .before .before .before .before .before .before .before .before .before .loop in
-    let b = c .before .before .before .before .before .before .before .before .before .before .before .before .before .before .before .before .before .before .before .before .pre .1 in
+    let turn = c .before .before .before .before .before .before .before .before .before .before .before in
+    let entry = turn .before .before .before .before .before .before .before .before .before in
+    let l = turn .loop in
+    let b = entry .pre .1 in
     let g = l .inv .9 (b .head) (b .capacity) (b .standing) in
     record { head = b .head; capacity = b .capacity; state = g .state; standing = g .standing }
 
 add-t38 : tie.Need-add-t38 Inv-loop μ-loop
 add-t38 c =
-    let l = c .before .before .before .before .before .before .before .before .before .before .before .before .before .before .before .before .before .before .before .before .before .before .before .before .before .before .before .before .before .loop in
-    omega (arith, l .inv .0, l .inv .1, c .before .before .before .before .before .before .before .before .before .before .before .before .before .before .before .before .before .before .before .before .before .before .before .before .before .before .before .before .before .before .before .before .before .before .before .before .before .before .pre .0 .0)
+    let turn = c .before .before .before .before .before .before .before .before .before .before .before .before .before .before .before .before .before .before .before .before .before .before .before .before .before .before .before .before .before in
+    let entry = turn .before .before .before .before .before .before .before .before .before in
+    let l = turn .loop in
+    omega (arith, l .inv .0, l .inv .1, entry .pre .0 .0)
 
 same-length-15 : tie.Need-same-length-15 Inv-loop μ-loop
 same-length-15 c =
-    let l = c .before .before .before .before .before .before .before .before .before .before .before .before .before .before .before .before .before .before .before .before .before .before .before .before .before .before .before .before .before .loop in
-    c .before .before .before .before .before .before .before .before .before .before .before .before .before .before .before .before .before .command .kept .0 ∙ l .inv .2
+    let command-at = c .before .before .before .before .before .before .before .before .before .before .before .before .before .before .before .before .before in
+    let turn = command-at .before .before .before .before .before .before .before .before .before .before .before .before in
+    let l = turn .loop in
+    command-at .command .kept .0 ∙ l .inv .2
 
 same-length-16 : tie.Need-same-length-16 Inv-loop μ-loop
 same-length-16 c =
-    let l = c .before .before .before .before .before .before .before .before .before .before .before .before .before .before .before .before .before .before .before .before .before .before .before .before .before .before .before .before .before .loop in
-    c .before .before .before .before .before .before .before .before .before .before .before .before .before .before .before .before .before .command .kept .1 .0 ∙ l .inv .3
+    let command-at = c .before .before .before .before .before .before .before .before .before .before .before .before .before .before .before .before .before in
+    let turn = command-at .before .before .before .before .before .before .before .before .before .before .before .before in
+    let l = turn .loop in
+    command-at .command .kept .1 .0 ∙ l .inv .3
 
 same-length-17 : tie.Need-same-length-17 Inv-loop μ-loop
 same-length-17 c =
-    let l = c .before .before .before .before .before .before .before .before .before .before .before .before .before .before .before .before .before .before .before .before .before .before .before .before .before .before .before .before .before .loop in
-    c .before .before .before .before .before .before .before .before .before .before .before .before .before .before .before .before .before .command .kept .1 .1 .0 ∙ l .inv .4
+    let command-at = c .before .before .before .before .before .before .before .before .before .before .before .before .before .before .before .before .before in
+    let turn = command-at .before .before .before .before .before .before .before .before .before .before .before .before in
+    let l = turn .loop in
+    command-at .command .kept .1 .1 .0 ∙ l .inv .4
 
 same-length-18 : tie.Need-same-length-18 Inv-loop μ-loop
 same-length-18 c =
-    let l = c .before .before .before .before .before .before .before .before .before .before .before .before .before .before .before .before .before .before .before .before .before .before .before .before .before .before .before .before .before .loop in
-    c .before .before .before .before .before .before .before .before .before .before .before .before .before .before .before .before .before .command .kept .1 .1 .1 .0 ∙ l .inv .5
+    let command-at = c .before .before .before .before .before .before .before .before .before .before .before .before .before .before .before .before .before in
+    let turn = command-at .before .before .before .before .before .before .before .before .before .before .before .before in
+    let l = turn .loop in
+    command-at .command .kept .1 .1 .1 .0 ∙ l .inv .5
 
 same-length-19 : tie.Need-same-length-19 Inv-loop μ-loop
 same-length-19 c =
-    let l = c .before .before .before .before .before .before .before .before .before .before .before .before .before .before .before .before .before .before .before .before .before .before .before .before .before .before .before .before .before .loop in
-    c .before .before .before .before .before .before .before .before .before .before .before .before .before .before .before .before .before .command .kept .1 .1 .1 .1 .0 ∙ l .inv .6
+    let command-at = c .before .before .before .before .before .before .before .before .before .before .before .before .before .before .before .before .before in
+    let turn = command-at .before .before .before .before .before .before .before .before .before .before .before .before in
+    let l = turn .loop in
+    command-at .command .kept .1 .1 .1 .1 .0 ∙ l .inv .6
 
 same-length-20 : tie.Need-same-length-20 Inv-loop μ-loop
 same-length-20 c =
-    let l = c .before .before .before .before .before .before .before .before .before .before .before .before .before .before .before .before .before .before .before .before .before .before .before .before .before .before .before .before .before .loop in
-    c .before .before .before .before .before .before .before .before .before .before .before .before .before .before .before .before .before .command .kept .1 .1 .1 .1 .1 .0 ∙ l .inv .7
+    let command-at = c .before .before .before .before .before .before .before .before .before .before .before .before .before .before .before .before .before in
+    let turn = command-at .before .before .before .before .before .before .before .before .before .before .before .before in
+    let l = turn .loop in
+    command-at .command .kept .1 .1 .1 .1 .1 .0 ∙ l .inv .7
 
 same-length-21 : tie.Need-same-length-21 Inv-loop μ-loop
 same-length-21 c =
-    let l = c .before .before .before .before .before .before .before .before .before .before .before .before .before .before .before .before .before .before .before .before .before .before .before .before .before .before .before .before .before .loop in
-    c .before .before .before .before .before .before .before .before .before .before .before .before .before .before .before .before .before .command .kept .1 .1 .1 .1 .1 .1 .0 ∙ l .inv .8
+    let command-at = c .before .before .before .before .before .before .before .before .before .before .before .before .before .before .before .before .before in
+    let turn = command-at .before .before .before .before .before .before .before .before .before .before .before .before in
+    let l = turn .loop in
+    command-at .command .kept .1 .1 .1 .1 .1 .1 .0 ∙ l .inv .8
 
 returns-3 : tie.Need-returns-3 Inv-loop μ-loop
 returns-3 c =
+    let command-at = c .before .before .before .before .before .before .before .before .before .before .before .before .before .before .before .before .before in
+    let reading2-at = command-at .before .before .before .before .before .before .before .before .before in
+    let next-at = reading2-at .before .before in
+    let turn = next-at .before in
+    let entry = turn .before .before .before .before .before .before .before .before .before in
     λ h p st.
-    let l = c .before .before .before .before .before .before .before .before .before .before .before .before .before .before .before .before .before .before .before .before .before .before .before .before .before .before .before .before .before .loop in
-    let a = c .before .before .before .before .before .before .before .before .before .before .before .before .before .before .before .before .before .before .before .before .before .before .before .before .before .before .before .before .before .before .before .before .before .before .before .before .before .before .args in
+    let l = turn .loop in
+    let a = entry .args in
     let g = l .inv .9 h p st in
-    let played = c .before .before .before .before .before .before .before .before .before .before .before .before .before .before .before .before .before .command .ensures h p (g .state) (unfold start in st .variable) (g .standing) in
-    stops (l .inv .0) g (sym (c .before .before .before .before .before .before .before .before .before .before .before .before .before .before .before .before .before .before .before .before .before .before .before .before .before .before .before .before .next .ensures) ∙ c .before .before .before .before .before .before .before .before .before .before .before .before .before .before .before .before .before .before .before .before .before .before .before .before .before .before .reading2 .given .1) played (c .if1 .taken) _ refl refl refl
+    let played = command-at .command .ensures h p (g .state) (unfold start in st .variable) (g .standing) in
+    stops (l .inv .0) g (sym (next-at .next .ensures) ∙ reading2-at .reading2 .given .1) played (c .if1 .taken) _ refl refl refl
 
 add-place : tie.Need-add-place Inv-loop μ-loop
 add-place c =
-    let l = c .before .before .before .before .before .before .before .before .before .before .before .before .before .before .before .before .before .before .before .before .before .before .before .before .before .before .before .before .before .loop in
-    omega (arith, l .inv .0, l .inv .1, c .before .before .before .before .before .before .before .before .before .before .before .before .before .before .before .before .before .before .before .before .before .before .before .before .before .before .before .before .before .before .before .before .before .before .before .before .before .before .pre .0 .0)
+    let turn = c .before .before .before .before .before .before .before .before .before .before .before .before .before .before .before .before .before .before .before .before .before .before .before .before .before .before .before .before .before in
+    let entry = turn .before .before .before .before .before .before .before .before .before in
+    let l = turn .loop in
+    omega (arith, l .inv .0, l .inv .1, entry .pre .0 .0)
 
 closes-requires : tie.Need-closes-requires Inv-loop μ-loop
 closes-requires c κs = search needs
 
 loop-less : tie.Need-loop-less Inv-loop μ-loop
 loop-less c =
-    let l = c .before .before .before .before .before .before .before .before .before .before .before .before .before .before .before .before .before .before .before .before .before .before .before .before .before .before .before .before .before .before .loop in
-    let a = c .before .before .before .before .before .before .before .before .before .before .before .before .before .before .before .before .before .before .before .before .before .before .before .before .before .before .before .before .before .before .before .before .before .before .before .before .before .before .before .args in
-    let b = c .before .before .before .before .before .before .before .before .before .before .before .before .before .before .before .before .before .before .before .before .before .before .before .before .before .before .before .before .before .before .before .before .before .before .before .before .before .before .before .pre .1 in
+    let reading2-at = c .before .before .before .before .before .before .before .before .before .before .before .before .before .before .before .before .before .before .before .before .before .before .before .before .before .before .before in
+    let next-at = reading2-at .before .before in
+    let turn = next-at .before in
+    let entry = turn .before .before .before .before .before .before .before .before .before in
+    let l = turn .loop in
+    let a = entry .args in
+    let b = entry .pre .1 in
     let g = l .inv .9 (b .head) (b .capacity) (b .standing) in
-    let reads = sym (c .before .before .before .before .before .before .before .before .before .before .before .before .before .before .before .before .before .before .before .before .before .before .before .before .before .before .before .before .before .next .ensures) ∙ c .before .before .before .before .before .before .before .before .before .before .before .before .before .before .before .before .before .before .before .before .before .before .before .before .before .before .before .reading2 .given .1 in
+    let reads = sym (next-at .next .ensures) ∙ reading2-at .reading2 .given .1 in
     let later = end-later (l .inv .0) g reads in
     let inside = end-inside (l .inv .0) g reads in
     omega (arith, later, inside)
 
 loop-again : tie.Need-loop-again Inv-loop μ-loop
 loop-again c =
-    let l = c .before .before .before .before .before .before .before .before .before .before .before .before .before .before .before .before .before .before .before .before .before .before .before .before .before .before .before .before .before .before .loop in
-    let a = c .before .before .before .before .before .before .before .before .before .before .before .before .before .before .before .before .before .before .before .before .before .before .before .before .before .before .before .before .before .before .before .before .before .before .before .before .before .before .before .args in
-    let b = c .before .before .before .before .before .before .before .before .before .before .before .before .before .before .before .before .before .before .before .before .before .before .before .before .before .before .before .before .before .before .before .before .before .before .before .before .before .before .before .pre .1 in
+    let command-at = c .before .before .before .before .before .before .before .before .before .before .before .before .before .before .before .before .before .before in
+    let reading2-at = command-at .before .before .before .before .before .before .before .before .before in
+    let next-at = reading2-at .before .before in
+    let turn = next-at .before in
+    let entry = turn .before .before .before .before .before .before .before .before .before in
+    let l = turn .loop in
+    let a = entry .args in
+    let b = entry .pre .1 in
     let known = l .inv .9 (b .head) (b .capacity) (b .standing) in
-    let reads = sym (c .before .before .before .before .before .before .before .before .before .before .before .before .before .before .before .before .before .before .before .before .before .before .before .before .before .before .before .before .before .next .ensures) ∙ c .before .before .before .before .before .before .before .before .before .before .before .before .before .before .before .before .before .before .before .before .before .before .before .before .before .before .before .reading2 .given .1 in
+    let reads = sym (next-at .next .ensures) ∙ reading2-at .reading2 .given .1 in
     let later = end-later (l .inv .0) known reads in
-    let kept = c .before .before .before .before .before .before .before .before .before .before .before .before .before .before .before .before .before .before .command .kept in (
+    let kept = command-at .command .kept in (
       end-inside (l .inv .0) known reads,
       omega (arith, later, l .inv .1),
       kept .0 ∙ l .inv .2,
@@ -212,7 +251,7 @@ loop-again c =
       kept .1 .1 .1 .1 .1 .1 .0 ∙ l .inv .8,
       λ h p st.
           let g = l .inv .9 h p st in
-          let played = c .before .before .before .before .before .before .before .before .before .before .before .before .before .before .before .before .before .before .command .ensures h p (g .state) (unfold start in st .variable) (g .standing) in
+          let played = command-at .command .ensures h p (g .state) (unfold start in st .variable) (g .standing) in
           goes-on (l .inv .0) g reads played (c .before .if1 .left) _ refl _ (c .closes .ensures),
     )
 

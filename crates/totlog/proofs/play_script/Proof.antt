@@ -4,7 +4,7 @@ use native.Mathlib.Omega.{arith}
 use lib.ListN.{length}
 use Rattle.player.specs.Player.{Outcome}
 use Rattle.totlog.specs.Entry.{answerOf}
-use Rattle.totlog.proofs.Begin.{refused-answer, refused-log, script-long, log-long, head-bad, head-outside, head-inside, variable-high, step-zero, step-high, head-fits, head-end}
+use Rattle.totlog.proofs.Heads.{refused-answer, refused-log, script-long, log-long, head-bad, head-outside, head-inside, variable-high, step-zero, step-high, head-fits, head-end}
 use borrow.Author.Needs.{needs}
 use Rattle.totlog.proofs.play_script.Statement.{statement}
 use Rattle.totlog.proofs.play_script.Tie as tie
@@ -45,10 +45,11 @@ refuse-requires-3 c κs = search needs
 
 returns-3 : tie.Need-returns-3
 returns-3 c =
-    let a = c .before .before .before .before .before .before .before .before .args in
+    let start = c .before .before .before .before .before .before .before .before in
+    let a = start .args in
     let is = head-bad (a .script .now) (length (a .log .now)) (omega arith) (omega arith) (sym (c .before .before .before .head .ensures) ∙ c .before .enum-told .given .1) in (
       c .refuse3 .ensures ∙ refused-answer (length (a .log .now)) 2 ∙ ap answerOf (sym is),
-      c .before .before .before .before .before .before .before .before .pre ∙ refused-log (length (a .log .now)) 2 ∙ ap (λ (o : Outcome). o .log) (sym is),
+      start .pre ∙ refused-log (length (a .log .now)) 2 ∙ ap (λ (o : Outcome). o .log) (sym is),
     )
 
 refuse-requires-4 : tie.Need-refuse-requires-4
@@ -56,10 +57,12 @@ refuse-requires-4 c κs = search needs
 
 returns-4 : tie.Need-returns-4
 returns-4 c =
-    let a = c .before .before .before .before .before .before .before .before .before .before .args in
-    let is = head-outside (a .script .now) (length (a .log .now)) (omega arith) (omega arith) _ _ _ (sym (c .before .before .before .before .before .head .ensures) ∙ c .before .before .before .variable .given .1) (variable-high _ _ (c .before .if3 .taken)) in (
+    let head-at = c .before .before .before .before .before in
+    let start = head-at .before .before .before .before .before in
+    let a = start .args in
+    let is = head-outside (a .script .now) (length (a .log .now)) (omega arith) (omega arith) _ _ _ (sym (head-at .head .ensures) ∙ c .before .before .before .variable .given .1) (variable-high _ _ (c .before .if3 .taken)) in (
       c .refuse4 .ensures ∙ refused-answer (length (a .log .now)) 3 ∙ ap answerOf (sym is),
-      c .before .before .before .before .before .before .before .before .before .before .pre ∙ refused-log (length (a .log .now)) 3 ∙ ap (λ (o : Outcome). o .log) (sym is),
+      start .pre ∙ refused-log (length (a .log .now)) 3 ∙ ap (λ (o : Outcome). o .log) (sym is),
     )
 
 refuse-requires-5 : tie.Need-refuse-requires-5
@@ -67,10 +70,13 @@ refuse-requires-5 c κs = search needs
 
 returns-5 : tie.Need-returns-5
 returns-5 c =
-    let a = c .before .before .before .before .before .before .before .before .before .before .before .args in
-    let is = head-outside (a .script .now) (length (a .log .now)) (omega arith) (omega arith) _ _ _ (sym (c .before .before .before .before .before .before .head .ensures) ∙ c .before .before .before .before .variable .given .1) (step-zero _ _ (c .before .before .if3 .left) (c .before .if4 .taken)) in (
+    let variable-at = c .before .before .before .before in
+    let head-at = variable-at .before .before in
+    let start = head-at .before .before .before .before .before in
+    let a = start .args in
+    let is = head-outside (a .script .now) (length (a .log .now)) (omega arith) (omega arith) _ _ _ (sym (head-at .head .ensures) ∙ variable-at .variable .given .1) (step-zero _ _ (c .before .before .if3 .left) (c .before .if4 .taken)) in (
       c .refuse5 .ensures ∙ refused-answer (length (a .log .now)) 3 ∙ ap answerOf (sym is),
-      c .before .before .before .before .before .before .before .before .before .before .before .pre ∙ refused-log (length (a .log .now)) 3 ∙ ap (λ (o : Outcome). o .log) (sym is),
+      start .pre ∙ refused-log (length (a .log .now)) 3 ∙ ap (λ (o : Outcome). o .log) (sym is),
     )
 
 refuse-requires-6 : tie.Need-refuse-requires-6
@@ -78,20 +84,26 @@ refuse-requires-6 c κs = search needs
 
 returns-6 : tie.Need-returns-6
 returns-6 c =
-    let a = c .before .before .before .before .before .before .before .before .before .before .before .before .args in
-    let is = head-outside (a .script .now) (length (a .log .now)) (omega arith) (omega arith) _ _ _ (sym (c .before .before .before .before .before .before .before .head .ensures) ∙ c .before .before .before .before .before .variable .given .1) (step-high _ _ (c .before .before .before .if3 .left) (omega (arith, c .before .before .if4 .left)) (c .before .if5 .taken)) in (
+    let variable-at = c .before .before .before .before .before in
+    let head-at = variable-at .before .before in
+    let start = head-at .before .before .before .before .before in
+    let a = start .args in
+    let is = head-outside (a .script .now) (length (a .log .now)) (omega arith) (omega arith) _ _ _ (sym (head-at .head .ensures) ∙ variable-at .variable .given .1) (step-high _ _ (c .before .before .before .if3 .left) (omega (arith, c .before .before .if4 .left)) (c .before .if5 .taken)) in (
       c .refuse6 .ensures ∙ refused-answer (length (a .log .now)) 3 ∙ ap answerOf (sym is),
-      c .before .before .before .before .before .before .before .before .before .before .before .before .pre ∙ refused-log (length (a .log .now)) 3 ∙ ap (λ (o : Outcome). o .log) (sym is),
+      start .pre ∙ refused-log (length (a .log .now)) 3 ∙ ap (λ (o : Outcome). o .log) (sym is),
     )
 
 play-commands-requires : tie.Need-play-commands-requires
 play-commands-requires c κs =
-    let a = c .before .before .before .before .before .before .before .before .before .before .before .before .args in
+    let variable-at = c .before .before .before .before .before in
+    let head-at = variable-at .before .before in
+    let start = head-at .before .before .before .before .before in
+    let a = start .args in
     record {
       short = omega arith;
-      inside = head-end (a .script .now) _ _ _ (sym (c .before .before .before .before .before .before .before .head .ensures) ∙ c .before .before .before .before .before .variable .given .1);
+      inside = head-end (a .script .now) _ _ _ (sym (head-at .head .ensures) ∙ variable-at .variable .given .1);
       small = omega arith;
-      zeros = c .before .before .before .before .before .before .before .before .before .before .before .before .pre;
+      zeros = start .pre;
       head = head-fits _ _ (c .before .before .before .if3 .left) (omega (arith, c .before .before .if4 .left)) (c .before .if5 .left);
     }
 
@@ -100,10 +112,16 @@ same-length c = search needs
 
 returns-7 : tie.Need-returns-7
 returns-7 c =
-    let a = c .before .before .before .before .before .before .before .before .before .before .before .before .before .before .before .args in
+    let if5-at = c .before .before .before .before in
+    let if4-at = if5-at .before in
+    let if3-at = if4-at .before in
+    let variable-at = if3-at .before .before in
+    let head-at = variable-at .before .before in
+    let start = head-at .before .before .before .before .before in
+    let a = start .args in
     let is =
-    head-inside (a .script .now) (length (a .log .now)) (omega arith) (omega arith) _ _ _ (sym (c .before .before .before .before .before .before .before .before .before .before .head .ensures) ∙ c .before .before .before .before .before .before .before .before .variable .given .1)
-    (head-fits _ _ (c .before .before .before .before .before .before .if3 .left) (omega (arith, c .before .before .before .before .before .if4 .left)) (c .before .before .before .before .if5 .left)) in
+    head-inside (a .script .now) (length (a .log .now)) (omega arith) (omega arith) _ _ _ (sym (head-at .head .ensures) ∙ variable-at .variable .given .1)
+    (head-fits _ _ (if3-at .if3 .left) (omega (arith, if4-at .if4 .left)) (if5-at .if5 .left)) in
     let e = c .before .before .play-commands .ensures in
     (e .0 ∙ ap answerOf (sym is), e .1 ∙ ap (λ (o : Outcome). o .log) (sym is))
 

@@ -33,13 +33,17 @@ same-length-2 c = search needs
 
 returns : tie.Need-returns
 returns c =
-    let a = c .before .before .before .before .before .before .before .before .before .before .before .before .before .before .before .before .before .args in
-    let n = cleared-length _ (a .log .now) (c .before .before .before .before .before .before .before .before .before .before .before .before .clear .ensures) in
-    let s = c .before .before .before .before .before .before .before .before .play-script .ensures in (
+    let bytes-at = c .before .before .before .before .before in
+    let play-script-at = bytes-at .before .before .before in
+    let clear-at = play-script-at .before .before .before .before in
+    let start = clear-at .before .before .before .before .before in
+    let a = start .args in
+    let n = cleared-length _ (a .log .now) (clear-at .clear .ensures) in
+    let s = play-script-at .play-script .ensures in (
       s .1 ∙ ap (λ (k : ℕ). played (a .script .now) k .log) n,
       c .before .before .pad .ensures
           ∙ ap (λ (l : List ℕ). padded (length (a .answer .now)) l)
-          (c .before .before .before .before .before .bytes .ensures ∙ ap bytesOf (s .0 ∙ ap (λ (k : ℕ). answerOf (played (a .script .now) k)) n)),
+          (bytes-at .bytes .ensures ∙ ap bytesOf (s .0 ∙ ap (λ (k : ℕ). answerOf (played (a .script .now) k)) n)),
     )
 
 pub totlog-play-spec : {M : Type 1} → statement M
