@@ -12,10 +12,9 @@ use Rattle.totdb.specs.declared.Side.{Side}
 use Rattle.cert.specs.State.{Head}
 use Rattle.request.specs.Rows.{Rows}
 use Rattle.nodes.proofs.Placing.{len-in}
-use Rattle.player.specs.Player.{firstNo, questions, sideFits}
+use Rattle.player.specs.Player.{firstNo, fitsOver, questions, sideFits}
 use Rattle.player.specs.declared.Command.{Command}
 use Rattle.player.proofs.Lengths.{Free, asked-ten, value-zero}
-use Rattle.commands.specs.Standing.{fitsOver}
 
 module _ (h : Head) (t : List Node) (l : ℕ) where
   pub leaf-6 : h .variable ≤ variable l → firstNo (questions h t (Command.Leaf l)) ≡ 6
@@ -98,25 +97,20 @@ module _ (h : Head) (t : List Node) (n v d : ℕ) where
 
 module _ (s : Side) (n : ℕ) where
   pub fits-offset : n ≤ s .offset → fitsOver s n ≡ false
-  unfolding fitsOver
   fits-offset p = rw (le-ltb (s .offset) n p)
 
   module _ (below : s .offset < n) where
     pub fits-limit : n - s .offset < s .limit → fitsOver s n ≡ false
-    unfolding fitsOver
     fits-limit p = rw (lt-ltb (s .offset) n below, lt-leb (s .limit) (n - s .offset) p)
 
     module _ (within : s .limit ≤ n - s .offset) where
       pub fits-shifted : ¬ (s .offset ≡ 0) → fitsOver s n ≡ true
-      unfolding fitsOver
       fits-shifted p = rw (lt-ltb (s .offset) n below, le-leb (s .limit) (n - s .offset) within, ne-eqb (s .offset) 0 p)
 
       pub fits-whole : s .offset ≡ 0 → s .limit ≡ n → fitsOver s n ≡ false
-      unfolding fitsOver
       fits-whole p q = rw (lt-ltb (s .offset) n below, le-leb (s .limit) (n - s .offset) within, eq-eqb (s .offset) 0 p, eq-eqb (s .limit) n q)
 
       pub fits-part : s .offset ≡ 0 → ¬ (s .limit ≡ n) → fitsOver s n ≡ true
-      unfolding fitsOver
       fits-part p q = rw (lt-ltb (s .offset) n below, le-leb (s .limit) (n - s .offset) within, eq-eqb (s .offset) 0 p, ne-eqb (s .limit) n q)
 
 -- ---- a side of the table
@@ -124,5 +118,5 @@ module _ (s : Side) (n : ℕ) where
 pub side-fits : (ns : List ℕ) (t : List Node) → Rows ns t → (s : Side) → s .node < length t → (b : Bool) → fitsOver s (getD ns (8 * s .node) 0) ≡ b
     → sideFits t s ≡ b
 side-fits ns t r s h b e =
-    let over : sideFits t s ≡ fitsOver s (len (at t (s .node))) = unfold sideFits fitsOver in refl in
+    let over : sideFits t s ≡ fitsOver s (len (at t (s .node))) = unfold sideFits in refl in
     over ∙ ap (fitsOver s) (sym (len-in ns t (s .node) r h)) ∙ e

@@ -1,13 +1,11 @@
 -- What the code has at hand between two commands, and the state that it stands for.
 use mathlib.Core.Path.{_≡_}
-use mathlib.Core.Bool.{Bool, false, _&&_, cond, not as notb}
+use mathlib.Core.Bool.{false, cond}
 use mathlib.Core.List.{List, _++_}
 use Prim.Native.Nat.{ℕ, _-_}
-use lib.Dec.{leb, ltb, eqb}
 use lib.ListN.{length, replicate}
 use Rattle.record.specs.Record.{bytes, clauses}
 use Rattle.totdb.specs.Nodes.{leafCount}
-use Rattle.totdb.specs.declared.Side.{Side}
 use Rattle.cert.specs.State.{State, Head}
 use Rattle.define.specs.Tables.{Lists, Memory, memory, Exact}
 use Rattle.define.specs.declared.Out.{Out}
@@ -29,7 +27,7 @@ pub record Standing (h : Head) (c : ℕ) (ns ls os : List ℕ) (m : Memory) (z :
   pub leaves : z .leaves ≡ leafCount (s .nodes)
   pub variable : z .variable ≡ s .next-variable
 
--- The log, and the last four numbers of the answer, are those of the state s; the first step stands in for the count of steps.
+-- The log, and the last four numbers of the answer, are those of the state s; the next step is in the place of the count of steps.
 pub record Reported (c : ℕ) (log : List ℕ) (z : Totals) (s : State) : Type 0 where
   pub whole : log ≡ bytes (s .log) ++ replicate (c - length (bytes (s .log))) 0
   pub used : z .out .cursor .at ≡ length (bytes (s .log))
@@ -57,11 +55,7 @@ pub record ReadyNodes (ns ls os : List ℕ) (z : Totals) : Type 0 where
   pub log : List ℕ
   pub ready : Ready ns ls os held firsts steps log z
 
--- ---- parts of commands
-
--- Question 10, of a side over a node of n values.
-unfoldable pub fitsOver : Side → ℕ → Bool
-fitsOver s n = ltb (s .offset) n && leb (s .limit) (n - s .offset) && notb (eqb (s .offset) 0 && eqb (s .limit) n)
+-- ---- the end of a command
 
 -- A command that began with the totals z and wrote up to o. Where a number found no room nothing is changed.
 unfoldable pub endedAs : Totals → Out → Ended

@@ -12,9 +12,9 @@ ghost use Rattle.totdb.specs.Nodes.{Node};
 ghost use Rattle.cert.specs.State.{State, Head};
 ghost use Rattle.define.specs.Tables.{memory};
 ghost use Rattle.request.specs.Rows.{Rows};
-ghost use Rattle.player.specs.Player.{firstNo, questions};
+ghost use Rattle.player.specs.Player.{firstNo, fitsOver, questions};
 ghost use Rattle.player.specs.declared.Command.{Command};
-ghost use Rattle.commands.specs.Standing.{Standing, Played, Ready, ReadyNodes, fitsOver, endedAs};
+ghost use Rattle.commands.specs.Standing.{Standing, Played, Ready, ReadyNodes, endedAs};
 
 // How far the play is: the writing, the nodes, the leaves among them, and the next variable.
 pub struct Totals {

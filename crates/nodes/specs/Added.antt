@@ -15,7 +15,7 @@ pub record Sizes (ns ls os : List ℕ) : Type 0 where
   pub leaves-size : length ls ≡ 20416
   pub outputs-size : length os ≡ 20416
 
--- Two sides that pass questions 8 to 10, with room in the tables for their join as node n.
+-- Two sides that pass questions 8 to 10, with room in the tables for their join as node n. `low` keeps its output literals below 2 ^ 30.
 pub record Joinable (ns ls os : List ℕ) (t : List Node) (n variable : ℕ) (l r : Side) : Type 0 where
   pub rows : Rows ns t
   pub lists : Lists ls os t

@@ -26,13 +26,13 @@ firstNo [] = 0
 firstNo (ask n true ∷ qs) = firstNo qs
 firstNo (ask n false ∷ qs) = n
 
--- offset below the length, limit at most the length less offset, and not offset 0 with limit equal to the length
+-- Over a node of n values: offset below the length, limit at most the length less offset, and not offset 0 with limit equal to the length.
+abbrev pub fitsOver : Side → ℕ → Bool
+fitsOver s n = ltb (s .offset) n && leb (s .limit) (n - s .offset) && notb (eqb (s .offset) 0 && eqb (s .limit) n)
+
 unfoldable pub sideFits : List Node → Side → Bool
 unfolding at len
-sideFits t s =
-    ltb (s .offset) (len (at t (s .node)))
-    && leb (s .limit) (len (at t (s .node)) - s .offset)
-    && notb (eqb (s .offset) 0 && eqb (s .limit) (len (at t (s .node))))
+sideFits t s = fitsOver s (len (at t (s .node)))
 
 -- Questions 6 to 12.
 unfoldable pub questions : Head → List Node → Command → List Question
