@@ -60,7 +60,7 @@ record-back (derivation ks) rest = rw (tokens-back ks rest)
 record-back (clause s ls) rest = rw (many-back ls rest)
 record-back (deletion ss) rest = rw (many-back ss rest)
 
-numbers-some : (r : Record) → 0 < length (numbers r)
+pub numbers-some : (r : Record) → 0 < length (numbers r)
 unfolding numbers
 numbers-some (sum w ts b) = omega arith
 numbers-some (derivation ks) = omega arith

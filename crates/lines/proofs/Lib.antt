@@ -1,0 +1,7 @@
+pub mod Cases
+pub mod Found
+pub mod Played
+pub mod Printed
+pub mod Sheets
+pub mod Size
+pub mod Sort

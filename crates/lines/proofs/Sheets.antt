@@ -1,0 +1,51 @@
+-- The sheet from what the library answers: the refusal, or the header and the lines of the log.
+use mathlib.Core.Path.{_≡_, refl, sym, ap, _∙_}
+use mathlib.Core.List.{List, _++_, flatMap}
+use Prim.Native.Nat.{ℕ, zero, suc, _≤_}
+use lib.ListN.{length, take}
+use lib.Seq.{length-take-le}
+use Rattle.player.specs.Player.{played, mostBytes}
+use Rattle.totlog.specs.Entry.{answerOf}
+use Rattle.totlog.specs.declared.Answer.{Answer}
+use Rattle.demands.specs.Demands.{Demand1}
+use Rattle.demands.proofs.Demand1.{demand-1}
+use Rattle.listing.specs.Order.{before}
+use Rattle.lines.specs.Sheet
+use Rattle.listing.specs.Line.{line}
+use Rattle.lines.specs.Sheet.{header, refusal, sheetOf, sheet}
+use Rattle.listing.specs.Walk.{clauseAt, clausePlaces, linesAt}
+use Rattle.lines.proofs.Played.{log-clauses}
+use Rattle.lines.proofs.Sort.{map-sort}
+
+module _ (script : List ℕ) {log : List ℕ} {a : Answer} (p : a ≡ answerOf (played script mostBytes)) (q : log ≡ played script mostBytes .log) where
+  pub used-within : a .length ≤ length log
+  unfolding Demand1
+  used-within = let d = demand-1 script mostBytes .1 in rw (p, q, d .whole) (d .within)
+
+  pub cut-length : a .length ≡ length (take (a .length) log)
+  cut-length = sym (length-take-le (a .length) log used-within)
+
+  pub cut-within : length (take (a .length) log) ≤ mostBytes
+  unfolding Demand1
+  cut-within = let d = demand-1 script mostBytes .1 in rw (← cut-length, p) (d .within)
+
+  pub refused-sheet : (a .number ≡ 0 → ⊥) → refusal (a .number) (a .place) ≡ sheet script
+  unfolding sheetOf
+  refused-sheet h = go (a .number) refl
+    where
+      go : (n : ℕ) → a .number ≡ n → refusal (a .number) (a .place) ≡ sheet script
+      go zero e = absurd (h e)
+      go (suc n) e =
+          let k : played script mostBytes .number ≡ suc n = ap (λ (b : Answer). b .number) (sym p) ∙ e in
+          let f : played script mostBytes .place ≡ a .place = ap (λ (b : Answer). b .place) (sym p) in
+          rw (k, sheetOf, f, e)
+
+  pub accepted-sheet : a .number ≡ 0 → header (a .nodes) (a .steps) (a .clauses) ++ linesAt (take (a .length) log) ≡ sheet script
+  unfolding sheetOf linesAt
+  accepted-sheet h =
+      let o = played script mostBytes in
+      let l = take (o .used) (o .log) in
+      let k : o .number ≡ 0 = ap (λ (b : Answer). b .number) (sym p) ∙ h in
+      let sorted : linesAt l ≡ flatMap line (Sheet.sorted (Sheet.clausesIn l)) =
+      ap (flatMap line) (map-sort (clauseAt l) before (clausePlaces l (length l) 0) ∙ ap Sheet.sorted (log-clauses script mostBytes)) in
+      rw (p, q, k, sheetOf, sorted)

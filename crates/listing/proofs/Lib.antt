@@ -1,0 +1,4 @@
+pub mod Collected
+pub mod Keys
+pub mod Turns
+pub mod Within
