@@ -1,18 +1,13 @@
 -- Two requests in both directions through a window, worked out: the numbers of their records are those that rustsat 0.7.5 writes.
 use mathlib.Core.Path.{_≡_, refl}
 use mathlib.Core.List.{List, [], _∷_, flatMap}
-use Prim.Native.Nat.{ℕ}
 use Rattle.record.specs.Record.{numbers}
 use Rattle.totdb.specs.Nodes.{Node, leaf, join}
-use Rattle.totdb.specs.declared.Side.{Side}
 use Rattle.cert.specs.State.{State, start, serve, requests}
-
-side : ℕ → ℕ → Side
-side n f = record { node = n; offset = f; limit = 0 }
+use Rattle.cert.proofs.SchemaCases.{side}
 
 -- The leaves 0 2 4 6; node 4 joins the first two, node 5 that and the third, node 6 the outputs of node 5 from offset 1 on and the fourth.
 pub table : List Node
-unfolding side
 table =
     leaf 0 ∷ leaf 2 ∷ leaf 4 ∷ leaf 6
     ∷ join (0 ∷ 2 ∷ []) 4 (side 0 0) (side 1 0)

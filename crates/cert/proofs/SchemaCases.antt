@@ -10,17 +10,16 @@ use Rattle.cert.specs.Definitions.{Direction, if, only-if}
 use Rattle.cert.specs.Requests.{request, splits, negPart, posPart, ifClause, onlyIfClause, clausesAt, clausesOf, literalsOf}
 use Rattle.cert.specs.Totalizer.{literalAt, complement, simplify, C1, C2, schema, ofSide, ofNode, totalizerAt, totalizer}
 
-side : ℕ → ℕ → Side
+-- A side with no limit.
+abbrev pub side : ℕ → ℕ → Side
 side n f = record { node = n; offset = f; limit = 0 }
 
 -- Two leaves, 0 and 2, joined: outputs 4 and 6.
 unfoldable pub two : List Node
-unfolding side
 two = leaf 0 ∷ leaf 2 ∷ join (0 ∷ 2 ∷ []) 2 (side 0 0) (side 1 0) ∷ []
 
 -- Node 2 has the leaves 0 and 2 and the outputs 6 and 8. With the leaf 4, node 4 joins both of these, and node 5 the second: 10, 12, 14, and 16, 18.
 unfoldable pub three : List Node
-unfolding side
 three =
     leaf 0 ∷ leaf 2 ∷ join (0 ∷ 2 ∷ []) 3 (side 0 0) (side 1 0) ∷ leaf 4
     ∷ join (0 ∷ 2 ∷ 4 ∷ []) 5 (side 2 0) (side 3 0)

@@ -11,7 +11,7 @@ use Rattle.totdb.specs.Nodes.{Node, at, len, known, taken}
 use Rattle.totdb.specs.declared.Side.{Side}
 use Rattle.cert.specs.State.{Head}
 use Rattle.request.specs.Rows.{Rows}
-use Rattle.nodes.proofs.Placing.{len-in}
+use Rattle.request.proofs.Table.{row-len}
 use Rattle.player.specs.Player.{firstNo, fitsOver, questions, sideFits}
 use Rattle.player.specs.declared.Command.{Command}
 use Rattle.player.proofs.Lengths.{Free, asked-ten, value-zero}
@@ -119,4 +119,4 @@ pub side-fits : (ns : List ℕ) (t : List Node) → Rows ns t → (s : Side) →
     → sideFits t s ≡ b
 side-fits ns t r s h b e =
     let over : sideFits t s ≡ fitsOver s (len (at t (s .node))) = unfold sideFits in refl in
-    over ∙ ap (fitsOver s) (sym (len-in ns t (s .node) r h)) ∙ e
+    over ∙ ap (fitsOver s) (sym (row-len r (s .node) h)) ∙ e

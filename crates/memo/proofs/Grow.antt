@@ -2,12 +2,10 @@
 -- So a script in which both alternate is one over the final nodes, and two scripts that make the same nodes and want the same items match.
 use mathlib.Core.Path.{_≡_, refl, _∙_}
 use mathlib.Core.List.{List, [], _∷_, _++_, flatMap, List·Memᴰ, List·Memᴰ·not-nil, Perm}
-use Prim.Native.Nat.{_+_}
-use lib.ListN.{length}
 use lib.Seq.{append-snoc}
 use Rattle.memo.specs.Closure.{Same}
 use Rattle.memo.proofs.Lists.{flatMap-agree, of-flatMap}
-use Rattle.memo.proofs.Memo.{Rules, Log, Body, Written, items-perm, clauses-perm, keys-perm, sums-perm, clauses-count, steps-count}
+use Rattle.memo.proofs.Memo.{Rules, Log, Body, Written, items-perm, clauses-perm, keys-perm, sums-perm}
 use Rattle.memo.proofs.Serve.{Serves, serves-agree, served-good, serves-nil, serves-then}
 
 pub record World (Node Item Key Clause Sum : Type 0) : Type 1 where
@@ -74,8 +72,6 @@ pub record Matched {Item Key Clause Sum : Type 0} (l m : Log Item Key Clause Sum
   pub same-clauses : Perm (l .clauses) (m .clauses)
   pub same-keys : Perm (l .keys) (m .keys)
   pub same-sums : Perm (l .summed) (m .summed)
-  pub clause-count : length (l .clauses) ≡ length (m .clauses)
-  pub step-count : length (l .summed) + length (l .clauses) ≡ length (m .summed) + length (m .clauses)
 
 module _ {Node Item Key Clause Sum : Type 0} {W : World Node Item Key Clause Sum} (law : Grows W) where
   pub kept-more : (t u : List Node) (l : Log Item Key Clause Sum) → W .Ok t → Kept W t l → Kept W (t ++ u) l
@@ -138,6 +134,4 @@ module _ {Node Item Key Clause Sum : Type 0} {W : World Node Item Key Clause Sum
         same-clauses = clauses-perm same a b;
         same-keys = keys-perm same a b;
         same-sums = sums-perm same a b;
-        clause-count = clauses-count same a b;
-        step-count = steps-count same a b;
       }

@@ -2,11 +2,10 @@
 -- Two runs with the same set of requests write the same clauses, each once, and the same definitions, each once, with the same sums.
 use mathlib.Core.Path.{_≡_, subst}
 use mathlib.Core.List.{List, [], _∷_, _++_, flatMap, append-nil, List·Memᴰ, Perm, List·Nodup}
-use Prim.Native.Nat.{ℕ, _+_}
-use lib.ListN.{length}
+use Prim.Native.Nat.{ℕ}
 use Rattle.memo.specs.Closure.{From, Same}
 use Rattle.memo.specs.Visit.{batch}
-use Rattle.memo.proofs.Lists.{flatMap-append, of-flatMap, mem-flatMap, nodup-flatMap, flatMap-perm, same-flatMap, length-perm}
+use Rattle.memo.proofs.Lists.{flatMap-append, of-flatMap, mem-flatMap, nodup-flatMap, flatMap-perm, same-flatMap}
 use Rattle.memo.proofs.Machine.{batch-keeps}
 use Rattle.memo.proofs.Serve.{Serves, serves-then, served-from, served-has, served-once, served-perm, served-same, Falls}
 
@@ -95,13 +94,6 @@ module _ {Item Key Clause Sum : Type 0} {R : Rules Item Key Clause Sum} {xs ys :
 
   pub sums-perm : Perm (l .summed) (m .summed)
   sums-perm = rw (p .body .adds, q .body .adds) (flatMap-perm (R .sums) keys-perm)
-
-  pub clauses-count : length (l .clauses) ≡ length (m .clauses)
-  clauses-count = length-perm clauses-perm
-
-  -- A step for each sum and for each clause.
-  pub steps-count : length (l .summed) + length (l .clauses) ≡ length (m .summed) + length (m .clauses)
-  steps-count = rw (length-perm sums-perm, clauses-count)
 
 -- A player: any state from which the log is read and in which an item's own work moves it so.
 module _ {Item Key Clause Sum S : Type 0} (R : Rules Item Key Clause Sum) (Good : Item → Type 0) (log : S → Log Item Key Clause Sum)

@@ -16,7 +16,8 @@ use Rattle.nodes.specs.Added.{Joinable}
 use Rattle.nodes.specs.Copied.{literalsIn, literalsFrom, joinRow, Small}
 use Rattle.nodes.proofs.Adding.{lists-join}
 use Rattle.nodes.proofs.Copying.{length-in}
-use Rattle.nodes.proofs.Placing.{len-in, rows-join}
+use Rattle.request.proofs.Table.{row-len}
+use Rattle.nodes.proofs.Placing.{rows-join}
 
 -- ---- one side
 
@@ -48,7 +49,7 @@ side-in : (ns ls os : List ℕ) (t : List Node) (s : Side) → Rows ns t → Lis
     → s .offset + sideLen t s ≤ len (at t (s .node)) → SideRead ns ls os t s
 unfolding sideLen sideLeaves sideOutputs literalsIn
 side-in ns ls os t s rows lists h k =
-    let e : getD ns (8 * s .node) 0 ≡ len (at t (s .node)) = len-in ns t (s .node) rows h in
+    let e : getD ns (8 * s .node) 0 ≡ len (at t (s .node)) = row-len rows (s .node) h in
     let row = lists .row (s .node) h in
     let few : length t ≤ 319 = lists .few in
     let own : lengthOver s (getD ns (8 * s .node) 0) ≡ sideLen t s = rw e in

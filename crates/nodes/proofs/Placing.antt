@@ -6,7 +6,7 @@ use native.Mathlib.Numerals.{towards-suc}
 use native.Mathlib.Omega.{arith}
 use lib.ListN.{length, getD, set, take, drop, length-set}
 use lib.Seq.{sets, length-sets, take-set-le, getD-set-same, getD-set-other}
-use Rattle.totdb.specs.Nodes.{Node, leaf, join, at, len, leaves}
+use Rattle.totdb.specs.Nodes.{Node, leaf, join, at}
 use Rattle.totdb.specs.declared.Side.{Side}
 use Rattle.cert.proofs.Tables.{at-snoc}
 use Rattle.request.specs.Rows.{RowOf, Rows, sideIn}
@@ -20,15 +20,6 @@ pub join-stores : (ns : List ℕ) (p k : ℕ) (l r : Side) (a b : List ℕ) → 
 join-stores ns p k l r a b e f = rw (f, e) (simp towards-suc)
 
 -- ---- rows
-
--- The length that the table has of a node.
-pub len-in : (ns : List ℕ) (t : List Node) (n : ℕ) → Rows ns t → n < length t → getD ns (8 * n) 0 ≡ len (at t n)
-unfolding RowOf len leaves
-len-in ns t n rows h = by (at t n) (rows .row n h)
-  where
-    by : (x : Node) → RowOf ns n x → getD ns (8 * n) 0 ≡ len x
-    by (leaf l) r = r .0
-    by (join ls o l r) p = p .0
 
 row-kept : (ns ms : List ℕ) (q n : ℕ) (x : Node) → take q ms ≡ take q ns → 8 * n + 8 ≤ q → RowOf ns n x → RowOf ms n x
 unfolding RowOf

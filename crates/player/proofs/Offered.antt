@@ -1,17 +1,17 @@
 -- Question 13 is never answered no: each definition that the clauses of a value of a node look up has the direction wanted.
-use mathlib.Core.Path.{_≡_, refl, subst, sym}
-use mathlib.Core.Bool.{Bool, true, false, _||_}
-use mathlib.Core.Logic.{dite, ⊎-elim}
+use mathlib.Core.Path.{_≡_, refl, subst}
+use mathlib.Core.Bool.{Bool, false}
+use mathlib.Core.Logic.{dite}
 use mathlib.Core.List.{List, [], _∷_, List·Memᴰ, List·Memᴰ·head, List·Memᴰ·tail, List·Memᴰ·not-nil, Memᴰ·of-map}
 use Prim.Native.Nat.{ℕ, zero, suc, _+_, _-_, _*_, _≤_}
 use native.Mathlib.Decide.{decLe}
 use native.Mathlib.Omega.{arith}
-use lib.ListN.{length, drop}
+use lib.ListN.{drop}
 use Rattle.totdb.specs.Nodes.{Node, leaf, join, at, len, any, sideLen, sideLit}
 use Rattle.totdb.specs.declared.Side.{Side}
 use Rattle.cert.specs.Definitions.{Direction, if, only-if, real, window, stored, lacking, oneDef, realDef, windowDef, longDef, sideDef}
 use Rattle.cert.specs.Requests.{Request, request, Clause, ifClause, onlyIfClause, splits, clausesOf, clausesAt, lacks, lacksOne}
-use Rattle.cert.proofs.Apart.{Right, Sized, Fit, splits-mem}
+use Rattle.cert.proofs.Apart.{Right, splits-mem}
 use Rattle.player.specs.Player.{anyLacks}
 
 any-none : {A : Type 0} (f : A → Bool) (l : List A) → ((a : A) → List·Memᴰ a l → f a ≡ false) → any f l ≡ false

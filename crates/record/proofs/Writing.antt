@@ -154,11 +154,6 @@ puts-fit n bs (x ∷ ns) h =
     ∙ puts-fit n (bs ++ encode x) ns (omega arith)
     ∙ ap (filled n) (append-assoc bs (encode x) (flatMap encode ns))
 
--- `settle` leaves it as it is.
-pub filled-settled : (start n : ℕ) (bs : List ℕ) → settled start (filled n bs) ≡ filled n bs
-unfolding settled
-filled-settled start n bs = refl
-
 -- ---- a command that does not fit: after a number that found no room a shorter one may still be written, and the flag stays
 
 puts-full : (b : Buffer) (ns : List ℕ) → b .cursor .full ≡ true → puts b ns .cursor .full ≡ true

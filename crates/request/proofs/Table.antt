@@ -22,16 +22,17 @@ pub join-is : (ns : List ℕ) (n : ℕ) (l r : Side) (a b c : ℕ) → l ≡ sid
     → record { node = n; len = a; left = l; «left_len» = b; right = r; «right_len» = c } ≡ joinIn ns n
 join-is ns n l r a b c p q e f g = rw (e, f, g, p, q)
 
+-- The length that the table has of a node.
+pub row-len : {ns : List ℕ} {t : List Node} → Rows ns t → (n : ℕ) → n < length t → getD ns (8 * n) 0 ≡ len (at t n)
+unfolding RowOf len
+row-len {ns} {t} w n h = by (at t n) (w .row n h)
+  where
+    by : (x : Node) → RowOf ns n x → getD ns (8 * n) 0 ≡ length (leaves x)
+    by (leaf a) q = q .0
+    by (join m o l r) q = q .0
+
 module _ {ls os : List ℕ} {t : List Node} (y : Lists ls os t) where
   -- ---- rows
-
-  row-len : {ns : List ℕ} → Rows ns t → (n : ℕ) → n < length t → getD ns (8 * n) 0 ≡ len (at t n)
-  unfolding RowOf len
-  row-len {ns} w n h = by (at t n) (w .row n h)
-    where
-      by : (x : Node) → RowOf ns n x → getD ns (8 * n) 0 ≡ length (leaves x)
-      by (leaf a) q = q .0
-      by (join m o l r) q = q .0
 
   pub kind-leaf : {ns : List ℕ} → Rows ns t → (n : ℕ) → n < length t → getD ns (8 * n + 7) 0 ≡ 0 → (a : ℕ) × (at t n ≡ leaf a)
   unfolding RowOf

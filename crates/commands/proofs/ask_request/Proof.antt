@@ -3,7 +3,7 @@ use mathlib.Core.Path.{sym}
 use Prim.Native.Nat.{_*_}
 use native.Mathlib.Omega.{arith}
 use borrow.Author.Needs.{needs}
-use Rattle.nodes.proofs.Placing.{len-in}
+use Rattle.request.proofs.Table.{row-len}
 use Rattle.player.proofs.Lengths.{value-above, value-within}
 use Rattle.commands.proofs.Questions.{request-8, request-zero, request-none, request-many}
 use Rattle.commands.proofs.ask_request.Statement.{statement}
@@ -30,25 +30,25 @@ cast-len c = omega (arith, c .shared-slice-known .given (8 * c .before .before .
 returns-3 : tie.Need-returns-3
 returns-3 c = λ h t r e.
     let a = c .before .before .before .before .args in
-    let k = len-in (a .nodes .now) t (a .node) r (omega arith) in
+    let k = row-len r (a .node) (omega arith) in
     sym (value-above h t (a .node) (omega arith) (a .value) (a .direction) (omega arith))
 
 returns-4 : tie.Need-returns-4
 returns-4 c = λ h t r e.
     let a = c .before .before .before .before .before .args in
-    let k = len-in (a .nodes .now) t (a .node) r (omega arith) in
+    let k = row-len r (a .node) (omega arith) in
     sym (request-none h t (a .node) (a .value) (a .direction) (omega arith) (omega arith) (omega arith) (omega arith))
 
 returns-5 : tie.Need-returns-5
 returns-5 c = λ h t r e.
     let a = c .before .before .before .before .before .before .args in
-    let k = len-in (a .nodes .now) t (a .node) r (omega arith) in
+    let k = row-len r (a .node) (omega arith) in
     sym (request-many h t (a .node) (a .value) (a .direction) (omega arith) (omega arith) (omega arith) (omega arith) (omega arith))
 
 returns-6 : tie.Need-returns-6
 returns-6 c = λ h t r e.
     let a = c .before .before .before .before .before .before .args in
-    let k = len-in (a .nodes .now) t (a .node) r (omega arith) in
+    let k = row-len r (a .node) (omega arith) in
     sym (value-within h t (a .node) (omega arith) (a .value) (a .direction) (omega arith) (omega arith) (omega arith) (omega arith))
 
 pub ask-request-spec : {M : Type 1} → statement M

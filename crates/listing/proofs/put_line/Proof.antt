@@ -1,6 +1,5 @@
 -- `listing::put_line` meets its contract: no literal, or a first one and others.
 use borrow.Author.Needs.{needs}
-use mathlib.Core.Path.{_≡_}
 use Rattle.text.proofs.Laws.{after}
 use Rattle.listing.proofs.Turns.{line-none, line-some}
 use Rattle.listing.proofs.put_line.Statement.{statement}
