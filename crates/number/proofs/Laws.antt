@@ -55,6 +55,9 @@ unfolding encode
 encode-more zero h = absurd (omega arith)
 encode-more (suc n) h = rw (in-more n (suc n) h, same (suc n / 128) n (suc n / 128) (omega arith) (omega arith))
 
+pub encode-two : (x : ℕ) → 128 ≤ x → x < 16384 → encode x ≡ (x % 128 + 128) ∷ (x / 128) ∷ []
+encode-two x h k = rw (encode-more x h, encode-last (x / 128) (omega arith))
+
 pub encode-some : (x : ℕ) → 0 < length (encode x)
 encode-some = by-groups (λ x. 0 < length (encode x)) (λ x h. rw (encode-last x h) (omega arith)) (λ x h _. rw (encode-more x h) (omega arith))
 

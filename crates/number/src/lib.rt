@@ -71,9 +71,38 @@ fn size(x: u32) -> usize
     1 + size(x / 128)
 }
 
-// Writes x at `at`, whether or not `read` takes as many groups. The room is tested first, so that
-// nothing is written where x does not fit.
-pub fn write(log: &mut [u8], at: usize, x: u32) -> Written
+// A number of one group, as most of a log are.
+fn write_one(log: &mut [u8], at: usize, x: u32) -> Written
+    requires { ⌜ x < 128 ⌝ }
+    ensures { λ r. ⌜ r ≡ writtenAt (now (log .entry)) at x ⌝ }
+    ensures { λ _. ⌜ now (log .exit) ≡ written (now (log .entry)) at x ⌝ }
+{
+    if log.len() <= at {
+        return Written::Full;
+    }
+    log[at] = x as u8;
+    Written::End(at + 1)
+}
+
+// A number of two groups.
+fn write_two(log: &mut [u8], at: usize, x: u32) -> Written
+    requires { ⌜ (128 ≤ x) × (x < 16384) ⌝ }
+    ensures { λ r. ⌜ r ≡ writtenAt (now (log .entry)) at x ⌝ }
+    ensures { λ _. ⌜ now (log .exit) ≡ written (now (log .entry)) at x ⌝ }
+{
+    if log.len() <= at {
+        return Written::Full;
+    }
+    if log.len() - at < 2 {
+        return Written::Full;
+    }
+    log[at] = (x % 128 + 128) as u8;
+    log[at + 1] = (x / 128) as u8;
+    Written::End(at + 2)
+}
+
+// A number of any size. The room is tested first, so that nothing is written where x does not fit.
+fn write_groups(log: &mut [u8], at: usize, x: u32) -> Written
     ensures { λ r. ⌜ r ≡ writtenAt (now (log .entry)) at x ⌝ }
     ensures { λ _. ⌜ now (log .exit) ≡ written (now (log .entry)) at x ⌝ }
 {
@@ -92,4 +121,18 @@ pub fn write(log: &mut [u8], at: usize, x: u32) -> Written
     }
     log[i] = rest as u8;
     Written::End(i + 1)
+}
+
+// Writes x at `at`, whether or not `read` takes as many groups. One and two groups, with no loop, are what is fast.
+pub fn write(log: &mut [u8], at: usize, x: u32) -> Written
+    ensures { λ r. ⌜ r ≡ writtenAt (now (log .entry)) at x ⌝ }
+    ensures { λ _. ⌜ now (log .exit) ≡ written (now (log .entry)) at x ⌝ }
+{
+    if x < 128 {
+        return write_one(log, at, x);
+    }
+    if x < 16384 {
+        return write_two(log, at, x);
+    }
+    write_groups(log, at, x)
 }

@@ -1,4 +1,4 @@
--- `number::write` meets its contract. The loop's invariant: writing what is left at `i` comes to the same log and the same end as writing x at `at`.
+-- `number::write_groups` meets its contract. The loop's invariant: writing what is left at `i` comes to the same log and the same end as writing x at `at`.
 -- The measure is what is left.
 use mathlib.Core.Path.{_≡_, refl, sym, ap, _∙_}
 use Prim.Native.Nat.{_+_, _%_, _≤_}
@@ -11,8 +11,8 @@ use Rattle.number.specs.declared.Written.the-variants.{End}
 use Rattle.number.proofs.Laws.{encode-last, encode-more, encode-some}
 use Rattle.number.proofs.Places.{written-fits, written-full}
 use borrow.Author.Needs.{needs}
-use Rattle.number.proofs.write.Statement.{statement}
-use Rattle.number.proofs.write.Tie as tie
+use Rattle.number.proofs.write_groups.Statement.{statement}
+use Rattle.number.proofs.write_groups.Tie as tie
 
 abbrev Inv-loop : tie.InvT-loop
 Inv-loop log₀ at x i₀ rest₀ log i rest =
@@ -88,8 +88,8 @@ returns-3 c =
     let f = written-fits (a .log .now) (a .at) (a .x) room in
     (ap End (omega (arith, ap length e)) ∙ sym (f .0), (rw e at (s .inv .0)) ∙ sets-eq (encode (a .x)) (a .log .now) (a .at) room ∙ sym (f .1))
 
-pub write-spec : {M : Type 1} → statement M
-write-spec =
+pub write-groups-spec : {M : Type 1} → statement M
+write-groups-spec =
     tie.close
     (tie.spec
     Inv-loop
