@@ -4,4 +4,5 @@ pub mod Firsts
 pub mod Lacking
 pub mod Joins
 pub mod Written
+pub mod Stored
 pub mod Splits

@@ -40,13 +40,12 @@ clause-puts k u this left right p q o step et el er ek es x y =
 -- ---- a clause after its lookups
 
 module _ {x : Join} {v i j : ℕ} {b : Bool} where
-  clause-is : (t : List Node) → ClauseIn t x v i j b → (s : State)
-      → write (clauseOf t x v i j b)
-      (lookUp t (real (x .node) v)
-      (each (lookUp t) (keyOf (sideDef t (x .right) j (direction (not b)))) (each (lookUp t) (keyOf (sideDef t (x .left) i (direction (not b)))) s)))
-      ≡ writeClause t (clauseOf t x v i j b) s
-  unfolding writeClause looksOf clauseOf each
-  clause-is t k s =
+  looks-is : (t : List Node) → ClauseIn t x v i j b → (s : State)
+      → lookUp t (real (x .node) v)
+      (each (lookUp t) (keyOf (sideDef t (x .right) j (direction (not b)))) (each (lookUp t) (keyOf (sideDef t (x .left) i (direction (not b)))) s))
+      ≡ each (lookUp t) (looksOf (clauseOf t x v i j b)) s
+  unfolding looksOf clauseOf each
+  looks-is t k s =
       rw (
         each-append (lookUp t)
             (keyOf (sideDef t (x .left) i (direction (not b))) ++ keyOf (sideDef t (x .right) j (direction (not b))))
@@ -56,15 +55,21 @@ module _ {x : Join} {v i j : ℕ} {b : Bool} where
             (this-there (len (at t (x .node))) (x .node) v b (k .of .above) (omega (arith, k .of .within, k .of .of .own-len))),
       )
 
-  pub does-clause : {ls os : List ℕ} {m n p q r : Memory}
+  pub does-looks : {ls os : List ℕ} {m n p q : Memory}
       → Does ls os (λ t. SideIn t (x .left) (x .«left_len») i × (lacks (sideDef t (x .left) i (direction (not b))) ≡ false))
       (λ t u. each (lookUp t) (keyOf (sideDef t (x .left) i (direction (not b)))) u) m n
       → Does ls os (λ t. SideIn t (x .right) (x .«right_len») j × (lacks (sideDef t (x .right) j (direction (not b))) ≡ false))
       (λ t u. each (lookUp t) (keyOf (sideDef t (x .right) j (direction (not b)))) u) n p
       → Does ls os (λ t. RealOf t (x .node) (x .len) v) (λ t u. lookUp t (real (x .node) v) u) p q
+      → Does ls os (λ t. ClauseIn t x v i j b) (λ t u. each (lookUp t) (looksOf (clauseOf t x v i j b)) u) m q
+  does-looks d e f =
+      does-same (λ t s l k. looks-is t k s)
+      (does-then (does-under (λ t l k. (left-in k, side-there t (x .left) i b (k .left))) d)
+      (does-then (does-under (λ t l k. (right-in k, side-there t (x .right) j b (k .right))) e) (does-under (λ t l k. this-in k) f)))
+
+  pub does-clause : {ls os : List ℕ} {m q r : Memory}
+      → Does ls os (λ t. ClauseIn t x v i j b) (λ t u. each (lookUp t) (looksOf (clauseOf t x v i j b)) u) m q
       → Does ls os (λ t. ClauseIn t x v i j b) (λ t u. write (clauseOf t x v i j b) u) q r
       → Does ls os (λ t. ClauseIn t x v i j b) (λ t u. writeClause t (clauseOf t x v i j b) u) m r
-  does-clause d e f g =
-      does-same (λ t s l k. clause-is t k s)
-      (does-then (does-under (λ t l k. (left-in k, side-there t (x .left) i b (k .left))) d)
-      (does-then (does-under (λ t l k. (right-in k, side-there t (x .right) j b (k .right))) e) (does-then (does-under (λ t l k. this-in k) f) g)))
+  unfolding writeClause
+  does-clause d e = does-then d e

@@ -1,15 +1,17 @@
 -- The steps of definitions, as the code reads them from its table of first steps.
 use mathlib.Core.Path.{_≡_}
-use mathlib.Core.Bool.{Bool, true, false, cond}
+use mathlib.Core.Bool.{Bool, true, false, cond, not, _&&_, _||_}
 use mathlib.Core.List.{List}
 use Prim.Native.Nat.{ℕ, zero, suc, _+_, _*_, _<_}
-use lib.Dec.{ltb}
+use lib.Dec.{eqb, ltb, leb}
 use lib.ListN.{getD}
 use Rattle.derivation.specs.Operands.{nextStep}
-use Rattle.totdb.specs.Nodes.{Node}
+use Rattle.totdb.specs.Nodes.{Node, lengthOver, plainOr, keyed}
+use Rattle.totdb.specs.declared.Side.{Side}
 use Rattle.cert.specs.Definitions.{Key}
 use Rattle.cert.specs.State.{Stored, fromIn}
 use Rattle.define.specs.Tables.{slot, Used}
+use Rattle.clauses.specs.declared.Join.{Join}
 
 -- The step k places after the first. It stops where `nextStep` does.
 unfoldable pub stepAt : ℕ → ℕ → ℕ
@@ -33,3 +35,19 @@ windowStep origin first (suc i) false = stepAt first (2 * i)
 pub record FirstsOf (t : List Node) (firsts : List ℕ) (es : List Stored) : Type 0 where
   pub is : (k : Key) → Used t k → getD firsts (slot k) 0 ≡ fromIn es k
   pub few : (k : Key) → fromIn es k < 2000000
+
+-- ---- what is stored
+
+abbrev pub hasFirst : List ℕ → ℕ → Bool
+hasFirst firsts p = not (eqb (getD firsts p 0) 0)
+
+-- What the a-th value of a side looks up, over a node of k values: nothing for a side of length 1, a real definition, or the window.
+unfoldable pub sideStored : List ℕ → Side → ℕ → ℕ → Bool
+unfolding plainOr keyed
+sideStored firsts s k a = leb (lengthOver s k) 1 || hasFirst firsts (plainOr (s .offset) (s .limit) (68 * s .node + keyed s a) (68 * s .node + 67))
+
+-- What a clause of value v looks up.
+unfoldable pub clauseStored : List ℕ → Join → ℕ → ℕ → ℕ → Bool
+unfolding sideStored
+clauseStored firsts x v i j =
+    hasFirst firsts (68 * x .node + v) && sideStored firsts (x .left) (x .«left_len») i && sideStored firsts (x .right) (x .«right_len») j

@@ -4,19 +4,19 @@ use derivation::Part;
 use derivation::SemDefinition;
 use totdb::Side;
 ghost use mathlib.Core.Path.{_≡_};
-ghost use mathlib.Core.Bool.{false};
+ghost use mathlib.Core.Bool.{Bool, false};
 ghost use mathlib.Core.List.{List};
 ghost use Prim.Native.Nat.{ℕ, _≤_, _<_, _+_, _-_, _*_, min};
 ghost use lib.ListN.{length, getD};
 ghost use Rattle.memo.specs.Visit.{each};
 ghost use Rattle.totdb.specs.Nodes.{Node, at, output, lengthOver};
 ghost use Rattle.cert.specs.Definitions.{sideDef, Key, oneDef};
-ghost use Rattle.cert.specs.Requests.{request, clausesOf, lacks};
-ghost use Rattle.cert.specs.State.{writeClause, Stored, stepIn, write};
+ghost use Rattle.cert.specs.Requests.{request, clausesOf, lacks, looksOf};
+ghost use Rattle.cert.specs.State.{lookUp, writeClause, Stored, stepIn, write};
 ghost use Rattle.derivation.specs.Operands.{operand, part};
 ghost use Rattle.derivation.specs.declared.SemDefinition.the-variants.{Step};
 ghost use Rattle.define.specs.Tables.{memory, Shown, Does, Sizes, direction, SideIn, Lists};
-ghost use Rattle.clauses.specs.Firsts.{stepAt, realStep, windowStep, FirstsOf};
+ghost use Rattle.clauses.specs.Firsts.{stepAt, realStep, windowStep, FirstsOf, hasFirst, sideStored, clauseStored};
 ghost use Rattle.clauses.specs.Joins.{JoinIn, ClauseIn, SideReach, ClauseReach, Within, clauseOf, clausePart, lastLiteral, splitSum, leftValue};
 
 // A join with its sides, and the lengths of the nodes: its own and those of its sides.
@@ -185,8 +185,46 @@ fn put_clause(
     }
 }
 
-// A clause, with what it looks up: left, right, this.
-fn write_clause(
+// Whether a definition is stored, by its place in the table.
+fn has_first(firsts: &[u32], place: usize) -> bool
+    requires { ⌜ place < length (now firsts) ⌝ }
+    ensures { λ r. ⌜ r ≡ hasFirst (now (firsts .entry)) place ⌝ }
+{
+    firsts[place] != 0
+}
+
+// Whether what the a-th value of a side looks up is stored.
+fn is_side_stored(firsts: &[u32], s: Side, node_len: usize, a: usize) -> bool
+    requires { ⌜ length (now firsts) ≡ 21692 ⌝ }
+    requires { ⌜ ((os : List ℕ) × SideReach os s «node_len» a) ⌝ }
+    ensures { λ r. ⌜ r ≡ sideStored (now (firsts .entry)) s «node_len» a ⌝ }
+{
+    if s.len(node_len) <= 1 {
+        return true;
+    }
+    if s.is_plain() {
+        return has_first(firsts, 68 * s.node + s.key(a));
+    }
+    has_first(firsts, 68 * s.node + 67)
+}
+
+// Whether all that a clause looks up is stored, as it is of most clauses.
+fn is_stored(firsts: &[u32], x: Join, value: usize, i: usize, j: usize) -> bool
+    requires { ⌜ length (now firsts) ≡ 21692 ⌝ }
+    requires { ⌜ ((os : List ℕ) × (b : Bool) × ClauseReach os x value i j b) ⌝ }
+    ensures { λ r. ⌜ r ≡ clauseStored (now (firsts .entry)) x value i j ⌝ }
+{
+    if !has_first(firsts, 68 * x.node + value) {
+        return false;
+    }
+    if !is_side_stored(firsts, x.left, x.left_len, i) {
+        return false;
+    }
+    is_side_stored(firsts, x.right, x.right_len, j)
+}
+
+// What a clause looks up: left, right, this. Where all is stored, the test alone spares three calls.
+fn look_up(
     log: &mut [u8],
     firsts: &mut [u32],
     steps: &mut [u32],
@@ -197,15 +235,17 @@ fn write_clause(
     value: usize,
     i: usize,
     j: usize,
-    only_if: bool,
 ) -> Out
     requires { ⌜ Sizes (now firsts) (now steps) ⌝ }
-    requires { ⌜ Shown (now leaves) (now outputs) (λ t. ClauseIn t x value i j «only_if») ⌝ }
-    ensures { λ r. ⌜ ((h : List ℕ) → Does (now (leaves .entry)) (now (outputs .entry)) (λ t. ClauseIn t x value i j «only_if»)
-        (λ t s. writeClause t (clauseOf t x value i j «only_if») s)
+    requires { ⌜ ((b : Bool) × Shown (now leaves) (now outputs) (λ t. ClauseIn t x value i j b)) ⌝ }
+    ensures { λ r. ⌜ ((h : List ℕ) (b : Bool) → Does (now (leaves .entry)) (now (outputs .entry)) (λ t. ClauseIn t x value i j b)
+        (λ t s. each (lookUp t) (looksOf (clauseOf t x value i j b)) s)
         (memory h (now (firsts .entry)) (now (steps .entry)) (now (log .entry)) o)
         (memory h (now (firsts .exit)) (now (steps .exit)) (now (log .exit)) r)) ⌝ }
 {
+    if is_stored(firsts, x, value, i, j) {
+        return o;
+    }
     let a = define::look_up_side(
         log,
         firsts,
@@ -228,7 +268,31 @@ fn write_clause(
         x.right_len,
         j,
     );
-    let c = define::look_up_real(log, firsts, steps, leaves, outputs, b, x.node, x.len, value);
+    define::look_up_real(log, firsts, steps, leaves, outputs, b, x.node, x.len, value)
+}
+
+// A clause, with what it looks up.
+fn write_clause(
+    log: &mut [u8],
+    firsts: &mut [u32],
+    steps: &mut [u32],
+    leaves: &[u32],
+    outputs: &[u32],
+    o: Out,
+    x: Join,
+    value: usize,
+    i: usize,
+    j: usize,
+    only_if: bool,
+) -> Out
+    requires { ⌜ Sizes (now firsts) (now steps) ⌝ }
+    requires { ⌜ Shown (now leaves) (now outputs) (λ t. ClauseIn t x value i j «only_if») ⌝ }
+    ensures { λ r. ⌜ ((h : List ℕ) → Does (now (leaves .entry)) (now (outputs .entry)) (λ t. ClauseIn t x value i j «only_if»)
+        (λ t s. writeClause t (clauseOf t x value i j «only_if») s)
+        (memory h (now (firsts .entry)) (now (steps .entry)) (now (log .entry)) o)
+        (memory h (now (firsts .exit)) (now (steps .exit)) (now (log .exit)) r)) ⌝ }
+{
+    let c = look_up(log, firsts, steps, leaves, outputs, o, x, value, i, j);
     put_clause(log, firsts, outputs, c, x, value, i, j, only_if)
 }
 
