@@ -223,8 +223,8 @@ fn is_stored(firsts: &[u32], x: Join, value: usize, i: usize, j: usize) -> bool
     is_side_stored(firsts, x.right, x.right_len, j)
 }
 
-// What a clause looks up: left, right, this. Where all is stored, the test alone spares three calls.
-fn look_up(
+// What a clause looks up: left, right, this.
+fn look_up_each(
     log: &mut [u8],
     firsts: &mut [u32],
     steps: &mut [u32],
@@ -243,9 +243,6 @@ fn look_up(
         (memory h (now (firsts .entry)) (now (steps .entry)) (now (log .entry)) o)
         (memory h (now (firsts .exit)) (now (steps .exit)) (now (log .exit)) r)) ⌝ }
 {
-    if is_stored(firsts, x, value, i, j) {
-        return o;
-    }
     let a = define::look_up_side(
         log,
         firsts,
@@ -269,6 +266,32 @@ fn look_up(
         j,
     );
     define::look_up_real(log, firsts, steps, leaves, outputs, b, x.node, x.len, value)
+}
+
+// What a clause looks up. Where all is stored, the test spares three calls.
+fn look_up(
+    log: &mut [u8],
+    firsts: &mut [u32],
+    steps: &mut [u32],
+    leaves: &[u32],
+    outputs: &[u32],
+    o: Out,
+    x: Join,
+    value: usize,
+    i: usize,
+    j: usize,
+) -> Out
+    requires { ⌜ Sizes (now firsts) (now steps) ⌝ }
+    requires { ⌜ ((b : Bool) × Shown (now leaves) (now outputs) (λ t. ClauseIn t x value i j b)) ⌝ }
+    ensures { λ r. ⌜ ((h : List ℕ) (b : Bool) → Does (now (leaves .entry)) (now (outputs .entry)) (λ t. ClauseIn t x value i j b)
+        (λ t s. each (lookUp t) (looksOf (clauseOf t x value i j b)) s)
+        (memory h (now (firsts .entry)) (now (steps .entry)) (now (log .entry)) o)
+        (memory h (now (firsts .exit)) (now (steps .exit)) (now (log .exit)) r)) ⌝ }
+{
+    if is_stored(firsts, x, value, i, j) {
+        return o;
+    }
+    look_up_each(log, firsts, steps, leaves, outputs, o, x, value, i, j)
 }
 
 // A clause, with what it looks up.

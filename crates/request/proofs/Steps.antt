@@ -1,6 +1,6 @@
 -- What the functions do, from what their calls do.
 use mathlib.Core.Path.{_≡_, refl, sym, _∙_}
-use mathlib.Core.Bool.{Bool, false}
+use mathlib.Core.Bool.{Bool, true, false}
 use mathlib.Core.List.{List, [], _∷_, flatMap, append-nil, List·Memᴰ}
 use Prim.Native.Nat.{ℕ, suc, zero, _+_, _-_, _*_, min, _≤_, _<_}
 use native.Mathlib.Omega.{arith}
@@ -15,12 +15,14 @@ use Rattle.cert.specs.Requests.{request, needs, below, clausesOf, named}
 use Rattle.cert.specs.State.{State, writeClause, writeRequest, serve, requests, directions}
 use Rattle.define.specs.Tables.{Lists, Memory, memory, Exact, exact, Does, place, flag, direction}
 use Rattle.define.specs.declared.Out.{Out}
-use Rattle.define.proofs.Does.{does-none, does-then, does-under, does-same, does-open}
+use Rattle.define.proofs.Does.{does-none, does-then, does-under, does-same, does-full, does-open}
 use Rattle.define.proofs.Slots.{node-short}
+use Rattle.define.proofs.Written.{true-false}
 use Rattle.clauses.specs.Joins.{JoinIn}
 use Rattle.clauses.specs.declared.Join.{Join}
-use Rattle.request.specs.Rows.{joinIn, askFor, askBoth, writeBoth, RequestIn, JoinAsked, SideAsked, OneByOne, if-held, only-if-held, at-leaf, AtOnce, Tables}
+use Rattle.request.specs.Rows.{joinIn, askFor, askBoth, writeBoth, RequestIn, JoinAsked, SideAsked, isHeld, OneByOne, if-held, only-if-held, at-leaf, AtOnce, Tables}
 use Rattle.request.proofs.Asked.{together, asked-held, asked-new, leaf-asked, serve-one, serve-first-held, serve-second-held, serve-new, serve-leaf}
+use Rattle.request.proofs.Grow.{ask-grows}
 use Rattle.request.proofs.Hold.{flag-held, flag-new, does-hold}
 use Rattle.request.proofs.Named.{named-range, below-more}
 use Rattle.request.proofs.Table.{kind-leaf, join-needs, asked-right, asked-flagged, asked-join, asked-left, asked-right-side, join-flagged, asked-below}
@@ -127,6 +129,14 @@ module _ {ls os : List ℕ} where
           let r : request n v d ≡ request (x .node) v d = rw q in
           rw (asked-new t (y .sized) (request n v d) (asked-right y w d) s (is-new d i e z y w u), r)
           (b .does c t (each (askFor t) (needs t (request (x .node) v d)) s) y (j .join) (a .does c t s y j (exact room u))))
+
+    -- The flag of a request is set, whatever the log.
+    pub held-asks : (d : Direction) {m : Memory} → isHeld (m .held) (request n v d) ≡ true → Asks ls os ns n v d m m
+    held-asks d {m} h = by (m .out .cursor .full) refl
+      where
+        by : (b : Bool) → m .out .cursor .full ≡ b → Asks ls os ns n v d m m
+        by true e = does-full (ask-grows (request n v d)) e
+        by false e = node-held d _ refl e (λ z. true-false (rw z at h) refl)
 
     -- ---- both directions
 

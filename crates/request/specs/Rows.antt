@@ -1,7 +1,9 @@
 -- The table of the nodes, 319 rows of 8 numbers, and what a request is handed.
 use mathlib.Core.Path.{_≡_}
+use mathlib.Core.Bool.{Bool, not}
 use mathlib.Core.List.{List}
 use Prim.Native.Nat.{ℕ, _+_, _*_, _≤_, _<_}
+use lib.Dec.{eqb}
 use lib.ListN.{length, getD}
 use Rattle.memo.specs.Visit.{ask, each}
 use Rattle.totdb.specs.Nodes.{Node, leaf, join, at, len, sideLen}
@@ -83,6 +85,10 @@ pub record SideAsked (ns : List ℕ) (t : List Node) (s : Side) (p q v : ℕ) : 
   pub other : q ≤ 64
   pub above : 1 ≤ v
   pub within : v ≤ 64
+
+-- The flag of a request is set.
+abbrev pub isHeld : List ℕ → Request → Bool
+isHeld held x = not (eqb (getD held (place x) 0) 0)
 
 -- How both directions of a value are served: one after the other, where one is held or the node is a leaf, or at once.
 pub data OneByOne (ns held : List ℕ) (n v : ℕ) : Type 0 where

@@ -11,7 +11,7 @@ ghost use Rattle.cert.specs.Requests.{request, needs, below, named};
 ghost use Rattle.cert.specs.State.{requests, serve, writeRequest};
 ghost use Rattle.define.specs.Tables.{memory, Shown, Does, direction, place};
 ghost use Rattle.clauses.specs.Joins.{JoinIn};
-ghost use Rattle.request.specs.Rows.{sideIn, joinIn, JoinRow, askFor, askBoth, writeBoth, RequestIn, JoinAsked, SideAsked, OneByOne, AtOnce, Tables};
+ghost use Rattle.request.specs.Rows.{sideIn, joinIn, JoinRow, askFor, askBoth, writeBoth, RequestIn, JoinAsked, SideAsked, isHeld, OneByOne, AtOnce, Tables};
 
 // The table of nodes: a number of it, and a side and a join by value.
 fn number_at(nodes: &[u32], at: usize) -> usize
@@ -64,6 +64,14 @@ fn place(node: usize, value: usize, only_if: bool) -> usize
     } else {
         128 * node + 2 * value - 2
     }
+}
+
+// Whether a request is held.
+fn is_held(held: &[u8], node: usize, value: usize, only_if: bool) -> bool
+    requires { ⌜ (length (now held) ≡ 40832) × (node < 319) × (1 ≤ value) × (value ≤ 64) ⌝ }
+    ensures { λ r. ⌜ r ≡ isHeld (now (held .entry)) (request node value (direction «only_if»)) ⌝ }
+{
+    held[place(node, value, only_if)] != 0
 }
 
 // The literals that a value names on a side of p literals, beside one of q: the lowest and the highest.
@@ -214,6 +222,10 @@ fn side_request(
     let high = highest(value, p);
     let mut s = o;
     for i in low..high + 1 {
+        // What is held, as most is, needs no call.
+        if is_held(held, side.node, side.offset + i, only_if) {
+            continue;
+        }
         s = node_request(
             nodes,
             leaves,

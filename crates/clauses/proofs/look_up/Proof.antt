@@ -1,12 +1,8 @@
--- `clauses::look_up` meets its contract: all is stored, or the three lookups.
+-- `clauses::look_up` meets its contract: all is stored, or each is looked up.
 use mathlib.Core.Path.{sym, _∙_}
-use mathlib.Core.Bool.{not}
-use Rattle.define.specs.Tables.{memory, direction}
-use Rattle.define.proofs.Does.{shown-to}
-use Rattle.clauses.proofs.Standing.{sizes-kept}
-use Rattle.clauses.proofs.Joins.{left-in, right-in, this-in, clause-reach}
+use Rattle.define.specs.Tables.{memory}
+use Rattle.clauses.proofs.Joins.{clause-reach}
 use Rattle.clauses.proofs.Stored.{does-stored}
-use Rattle.clauses.proofs.Written.{does-looks}
 use borrow.Author.Needs.{needs}
 use Rattle.clauses.proofs.look_up.Statement.{statement}
 use Rattle.clauses.proofs.look_up.Tie as tie
@@ -24,56 +20,20 @@ returns c =
     let a = c .before .before .before .before .before .before .before .before .args in
     λ h b. does-stored (memory h (a .firsts .now) (a .steps .now) (a .log .now) (a .o)) (sym (c .before .is-stored .ensures) ∙ c .if1 .taken)
 
-look-up-side-requires : tie.Need-look-up-side-requires
-look-up-side-requires c κs =
-    let start = c .before .before .before .before .before .before .before .before .before .before .before in
-    (start .pre .0, shown-to (λ t l k. left-in k) (start .pre .1 .1))
-
-look-up-side-requires-2 : tie.Need-look-up-side-requires-2
-look-up-side-requires-2 c κs =
-    let first = c .before .before .before .before .before .before .before .before .before in
-    let start = first .before .before .before .before .before .before .before .before .before .before .before .before in
-    (sizes-kept (start .pre .0) (first .look-up-side .kept .1 .0) (first .look-up-side .kept .1 .1 .0), shown-to (λ t l k. right-in k) (start .pre .1 .1))
-
-look-up-real-requires : tie.Need-look-up-real-requires
-look-up-real-requires c κs =
-    let second = c .before .before .before .before .before .before .before .before .before in
-    let first = second .before .before .before .before .before .before .before .before .before .before in
-    let start = first .before .before .before .before .before .before .before .before .before .before .before .before in (
-      sizes-kept (start .pre .0) (second .look-up-side2 .kept .1 .0 ∙ first .look-up-side .kept .1 .0)
-          (second .look-up-side2 .kept .1 .1 .0 ∙ first .look-up-side .kept .1 .1 .0),
-      shown-to (λ t l k. this-in k) (start .pre .1 .1),
-    )
+look-up-each-requires : tie.Need-look-up-each-requires
+look-up-each-requires c κs = search needs
 
 same-length-2 : tie.Need-same-length-2
-same-length-2 c =
-    let third = c .before .before .before .before .before .before in
-    let second = third .before .before .before .before .before .before .before .before .before .before in
-    let first = second .before .before .before .before .before .before .before .before .before .before in
-    third .look-up-real .kept .0 ∙ second .look-up-side2 .kept .0 ∙ first .look-up-side .kept .0
+same-length-2 c = search needs
 
 same-length-3 : tie.Need-same-length-3
-same-length-3 c =
-    let third = c .before .before .before .before .before .before in
-    let second = third .before .before .before .before .before .before .before .before .before .before in
-    let first = second .before .before .before .before .before .before .before .before .before .before in
-    third .look-up-real .kept .1 .0 ∙ second .look-up-side2 .kept .1 .0 ∙ first .look-up-side .kept .1 .0
+same-length-3 c = search needs
 
 same-length-4 : tie.Need-same-length-4
-same-length-4 c =
-    let third = c .before .before .before .before .before .before in
-    let second = third .before .before .before .before .before .before .before .before .before .before in
-    let first = second .before .before .before .before .before .before .before .before .before .before in
-    third .look-up-real .kept .1 .1 .0 ∙ second .look-up-side2 .kept .1 .1 .0 ∙ first .look-up-side .kept .1 .1 .0
+same-length-4 c = search needs
 
 returns-2 : tie.Need-returns-2
-returns-2 c =
-    let third = c .before .before .before .before .before .before in
-    let second = third .before .before .before .before .before .before .before .before .before .before in
-    let first = second .before .before .before .before .before .before .before .before .before .before in
-    λ h b.
-    let d = direction (not b) in
-    does-looks (first .look-up-side .ensures h d) (second .look-up-side2 .ensures h d) (third .look-up-real .ensures h)
+returns-2 c = search needs
 
 pub look-up-spec : {M : Type 1} → statement M
 look-up-spec =
@@ -82,9 +42,7 @@ look-up-spec =
     is-stored-requires
     same-length
     returns
-    look-up-side-requires
-    look-up-side-requires-2
-    look-up-real-requires
+    look-up-each-requires
     same-length-2
     same-length-3
     same-length-4

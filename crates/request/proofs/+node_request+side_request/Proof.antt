@@ -11,7 +11,7 @@ use Rattle.define.proofs.Does.{does-full, shown-to}
 use Rattle.define.proofs.Slots.{side-inside, node-short}
 use Rattle.request.specs.Rows.{Tables}
 use Rattle.request.proofs.Grow.{ask-grows}
-use Rattle.request.proofs.Steps.{tables-kept, node-held, node-leaf, node-join, join-done, Lower, side-none, side-more, side-done}
+use Rattle.request.proofs.Steps.{tables-kept, node-held, held-asks, node-leaf, node-join, join-done, Lower, side-none, side-more, side-done}
 use Rattle.request.proofs.Table.{asked-flagged, asked-row, asked-join, asked-low, asked-left, asked-right-side, asked-below}
 use borrow.Fn.Kinds.{In}
 use borrow.Fn.PlainCycle.{Measures, is, falls, and}
@@ -22,6 +22,7 @@ use Rattle.request.proofs.side_request.Reads as side-request
 use Rattle.request.proofs.side_request.Kinds as side-request-kinds
 use Rattle.request.proofs.+node_request+side_request.Lts-side_request as side-request-lts
 use Rattle.request.proofs.highest.Reads as highest-reads
+use Rattle.request.proofs.is_held.Reads as is-held-reads
 use Rattle.request.proofs.join_at.Reads as join-at-reads
 use Rattle.request.proofs.lowest.Reads as lowest-reads
 use Rattle.request.proofs.number_at.Reads as number-at-reads
@@ -488,6 +489,8 @@ side-request-lowest-requires : (t : ℕ) → side-request-lts.Need-lowest-requir
   lowest-reads.Learnt,
   highest-reads.Asked,
   highest-reads.Learnt,
+  is-held-reads.Asked,
+  is-held-reads.Learnt,
   node-request-below t,
   node-request.Post,
 ) (side-request-at t) side-request.Post side-request-Inv-loop side-request-μ-loop
@@ -499,6 +502,8 @@ side-request-highest-requires : (t : ℕ) → side-request-lts.Need-highest-requ
   lowest-reads.Learnt,
   highest-reads.Asked,
   highest-reads.Learnt,
+  is-held-reads.Asked,
+  is-held-reads.Learnt,
   node-request-below t,
   node-request.Post,
 ) (side-request-at t) side-request.Post side-request-Inv-loop side-request-μ-loop
@@ -510,6 +515,8 @@ side-request-add-i-end : (t : ℕ) → side-request-lts.Need-add-i-end (
   lowest-reads.Learnt,
   highest-reads.Asked,
   highest-reads.Learnt,
+  is-held-reads.Asked,
+  is-held-reads.Learnt,
   node-request-below t,
   node-request.Post,
 ) (side-request-at t) side-request.Post side-request-Inv-loop side-request-μ-loop
@@ -521,56 +528,68 @@ side-request-loop-holds : (t : ℕ) → side-request-lts.Need-loop-holds (
   lowest-reads.Learnt,
   highest-reads.Asked,
   highest-reads.Learnt,
+  is-held-reads.Asked,
+  is-held-reads.Learnt,
   node-request-below t,
   node-request.Post,
 ) (side-request-at t) side-request.Post side-request-Inv-loop side-request-μ-loop
 side-request-loop-holds t c =
     (omega arith, omega arith, c .before .before .before .before .before .before .before .before .before .pre .1 .0, refl, side-none (direction _) _)
 
-side-request-add-node-request : (t : ℕ) → side-request-lts.Need-add-node-request (
+side-request-add-is-held : (t : ℕ) → side-request-lts.Need-add-is-held (
   lowest-reads.Asked,
   lowest-reads.Learnt,
   highest-reads.Asked,
   highest-reads.Learnt,
+  is-held-reads.Asked,
+  is-held-reads.Learnt,
   node-request-below t,
   node-request.Post,
 ) (side-request-at t) side-request.Post side-request-Inv-loop side-request-μ-loop
-side-request-add-node-request t c =
-    let w = c .before .before .before .before .before .before .before .before .before .before .before .before .before .before .before .before .pre .1 .1 in
+side-request-add-is-held t c =
+    let w = c .before .before .before .before .before .before .before .before .before .before .before .before .before .pre .1 .1 in
     let f = side-inside (w .lists) _ (w .holds .of) in
-    omega (arith, c .before .before .before .before .before .loop-test .taken, c .before .before .before .before .before .before .before .highest .ensures, w .holds .own, f .1, node-short (w .lists) _ (f .0))
+    omega (arith, c .before .before .loop-test .taken, c .before .before .before .before .highest .ensures, w .holds .own, f .1, node-short (w .lists) _ (f .0))
 
-side-request-node-request-requires : (t : ℕ) → side-request-lts.Need-node-request-requires (
+side-request-is-held-requires : (t : ℕ) → side-request-lts.Need-is-held-requires (
   lowest-reads.Asked,
   lowest-reads.Learnt,
   highest-reads.Asked,
   highest-reads.Learnt,
+  is-held-reads.Asked,
+  is-held-reads.Learnt,
   node-request-below t,
   node-request.Post,
 ) (side-request-at t) side-request.Post side-request-Inv-loop side-request-μ-loop
-side-request-node-request-requires t c κs =
-    let l = c .before .before .before .before .before .before in
+side-request-is-held-requires t c κs =
+    let l = c .before .before .before in
     let s = l .before .before .before .before .before .before .before .before .before .before in
     let low : 1 ≤ l .loop .i = omega (arith, l .loop .inv .0, l .before .before .lowest .ensures) in
-    let high : l .loop .i ≤ s .args .p = omega (arith, c .before .before .before .before .before .loop-test .taken, l .before .highest .ensures) in
-    (omega (arith, s .pre .0), (l .loop .inv .2, shown-to (λ u y w. asked-below y w _ low high) (s .pre .1 .1)))
+    let high : l .loop .i ≤ s .args .p = omega (arith, c .before .before .loop-test .taken, l .before .highest .ensures) in
+    let w = s .pre .1 .1 in
+    let z = asked-flagged (w .lists) (asked-below (w .lists) (w .holds) _ low high) in
+    (l .loop .inv .2 .held-size, node-short (w .lists) _ (z .there) .0, z .above, z .within)
 
 side-request-add-i : (t : ℕ) → side-request-lts.Need-add-i (
   lowest-reads.Asked,
   lowest-reads.Learnt,
   highest-reads.Asked,
   highest-reads.Learnt,
+  is-held-reads.Asked,
+  is-held-reads.Learnt,
   node-request-below t,
   node-request.Post,
 ) (side-request-at t) side-request.Post side-request-Inv-loop side-request-μ-loop
 side-request-add-i t c =
-    omega (arith, c .before .before .before .before .before .before .before .before .before .before .before .before .before .before .loop-test .taken, c .before .before .before .before .before .before .before .before .before .before .before .before .before .before .before .before .highest .ensures, c .before .before .before .before .before .before .before .before .before .before .before .before .before .before .before .before .before .before .before .before .before .before .before .before .before .pre .1 .1 .holds .within)
+    omega (arith, c .before .before .before .before .loop-test .taken, c .before .before .before .before .before .before .highest .ensures, c .before .before .before .before .before .before .before .before .before .before .before .before .before .before .before .pre .1 .1 .holds .within)
 
 side-request-loop-less : (t : ℕ) → side-request-lts.Need-loop-less (
   lowest-reads.Asked,
   lowest-reads.Learnt,
   highest-reads.Asked,
   highest-reads.Learnt,
+  is-held-reads.Asked,
+  is-held-reads.Learnt,
   node-request-below t,
   node-request.Post,
 ) (side-request-at t) side-request.Post side-request-Inv-loop side-request-μ-loop
@@ -582,16 +601,98 @@ side-request-loop-again : (t : ℕ) → side-request-lts.Need-loop-again (
   lowest-reads.Learnt,
   highest-reads.Asked,
   highest-reads.Learnt,
+  is-held-reads.Asked,
+  is-held-reads.Learnt,
   node-request-below t,
   node-request.Post,
 ) (side-request-at t) side-request.Post side-request-Inv-loop side-request-μ-loop
 side-request-loop-again t c =
-    let k = c .before .before .before .before .before .before .before .before .node-request in
-    let l = c .before .before .before .before .before .before .before .before .before .before .before .before .before .before .before in
+    let l = c .before .before .before .before .before in
     let s = l .before .before .before .before .before .before .before .before .before .before in
-    let high : l .loop .i ≤ s .args .p = omega (arith, c .before .before .before .before .before .before .before .before .before .before .before .before .before .before .loop-test .taken, l .before .highest .ensures) in (
+    let high : l .loop .i ≤ s .args .p = omega (arith, c .before .before .before .before .loop-test .taken, l .before .highest .ensures) in (
       omega (arith, l .loop .inv .0),
-      omega (arith, l .loop .inv .0, c .before .before .before .before .before .before .before .before .before .before .before .before .before .before .loop-test .taken),
+      omega (arith, l .loop .inv .0, c .before .before .before .before .loop-test .taken),
+      l .loop .inv .2,
+      l .loop .inv .3,
+      side-more (direction _) _ _ (l .loop .inv .0) (l .before .before .lowest .ensures .2) high (l .loop .inv .4)
+          (held-asks (direction _) (sym (c .before .is-held .ensures) ∙ c .if1 .taken)),
+    )
+
+side-request-add-node-request : (t : ℕ) → side-request-lts.Need-add-node-request (
+  lowest-reads.Asked,
+  lowest-reads.Learnt,
+  highest-reads.Asked,
+  highest-reads.Learnt,
+  is-held-reads.Asked,
+  is-held-reads.Learnt,
+  node-request-below t,
+  node-request.Post,
+) (side-request-at t) side-request.Post side-request-Inv-loop side-request-μ-loop
+side-request-add-node-request t c =
+    let w = c .before .before .before .before .before .before .before .before .before .before .before .before .before .before .before .before .before .before .before .before .pre .1 .1 in
+    let f = side-inside (w .lists) _ (w .holds .of) in
+    omega (arith, c .before .before .before .before .before .before .before .before .before .loop-test .taken, c .before .before .before .before .before .before .before .before .before .before .before .highest .ensures, w .holds .own, f .1, node-short (w .lists) _ (f .0))
+
+side-request-node-request-requires : (t : ℕ) → side-request-lts.Need-node-request-requires (
+  lowest-reads.Asked,
+  lowest-reads.Learnt,
+  highest-reads.Asked,
+  highest-reads.Learnt,
+  is-held-reads.Asked,
+  is-held-reads.Learnt,
+  node-request-below t,
+  node-request.Post,
+) (side-request-at t) side-request.Post side-request-Inv-loop side-request-μ-loop
+side-request-node-request-requires t c κs =
+    let l = c .before .before .before .before .before .before .before .before .before .before in
+    let s = l .before .before .before .before .before .before .before .before .before .before in
+    let low : 1 ≤ l .loop .i = omega (arith, l .loop .inv .0, l .before .before .lowest .ensures) in
+    let high : l .loop .i ≤ s .args .p = omega (arith, c .before .before .before .before .before .before .before .before .before .loop-test .taken, l .before .highest .ensures) in
+    (omega (arith, s .pre .0), (l .loop .inv .2, shown-to (λ u y w. asked-below y w _ low high) (s .pre .1 .1)))
+
+side-request-add-i-2 : (t : ℕ) → side-request-lts.Need-add-i-2 (
+  lowest-reads.Asked,
+  lowest-reads.Learnt,
+  highest-reads.Asked,
+  highest-reads.Learnt,
+  is-held-reads.Asked,
+  is-held-reads.Learnt,
+  node-request-below t,
+  node-request.Post,
+) (side-request-at t) side-request.Post side-request-Inv-loop side-request-μ-loop
+side-request-add-i-2 t c =
+    omega (arith, c .before .before .before .before .before .before .before .before .before .before .before .before .before .before .before .before .before .before .loop-test .taken, c .before .before .before .before .before .before .before .before .before .before .before .before .before .before .before .before .before .before .before .before .highest .ensures, c .before .before .before .before .before .before .before .before .before .before .before .before .before .before .before .before .before .before .before .before .before .before .before .before .before .before .before .before .before .pre .1 .1 .holds .within)
+
+side-request-loop-less-2 : (t : ℕ) → side-request-lts.Need-loop-less-2 (
+  lowest-reads.Asked,
+  lowest-reads.Learnt,
+  highest-reads.Asked,
+  highest-reads.Learnt,
+  is-held-reads.Asked,
+  is-held-reads.Learnt,
+  node-request-below t,
+  node-request.Post,
+) (side-request-at t) side-request.Post side-request-Inv-loop side-request-μ-loop
+side-request-loop-less-2 t c =
+    search needs
+
+side-request-loop-again-2 : (t : ℕ) → side-request-lts.Need-loop-again-2 (
+  lowest-reads.Asked,
+  lowest-reads.Learnt,
+  highest-reads.Asked,
+  highest-reads.Learnt,
+  is-held-reads.Asked,
+  is-held-reads.Learnt,
+  node-request-below t,
+  node-request.Post,
+) (side-request-at t) side-request.Post side-request-Inv-loop side-request-μ-loop
+side-request-loop-again-2 t c =
+    let k = c .before .before .before .before .before .before .before .before .node-request in
+    let l = c .before .before .before .before .before .before .before .before .before .before .before .before .before .before .before .before .before .before .before in
+    let s = l .before .before .before .before .before .before .before .before .before .before in
+    let high : l .loop .i ≤ s .args .p = omega (arith, c .before .before .before .before .before .before .before .before .before .before .before .before .before .before .before .before .before .before .loop-test .taken, l .before .highest .ensures) in (
+      omega (arith, l .loop .inv .0),
+      omega (arith, l .loop .inv .0, c .before .before .before .before .before .before .before .before .before .before .before .before .before .before .before .before .before .before .loop-test .taken),
       tables-kept _ _ _ (l .loop .inv .2) (k .kept .1 .1 .1 .0) (k .kept .1 .1 .1 .1 .0) (k .kept .1 .1 .1 .1 .1 .0),
       k .kept .1 .1 .1 .1 .1 .1 .0 ∙ l .loop .inv .3,
       side-more (direction _) _ _ (l .loop .inv .0) (l .before .before .lowest .ensures .2) high (l .loop .inv .4) (k .ensures),
@@ -602,6 +703,8 @@ side-request-same-length : (t : ℕ) → side-request-lts.Need-same-length (
   lowest-reads.Learnt,
   highest-reads.Asked,
   highest-reads.Learnt,
+  is-held-reads.Asked,
+  is-held-reads.Learnt,
   node-request-below t,
   node-request.Post,
 ) (side-request-at t) side-request.Post side-request-Inv-loop side-request-μ-loop
@@ -613,6 +716,8 @@ side-request-same-length-2 : (t : ℕ) → side-request-lts.Need-same-length-2 (
   lowest-reads.Learnt,
   highest-reads.Asked,
   highest-reads.Learnt,
+  is-held-reads.Asked,
+  is-held-reads.Learnt,
   node-request-below t,
   node-request.Post,
 ) (side-request-at t) side-request.Post side-request-Inv-loop side-request-μ-loop
@@ -624,6 +729,8 @@ side-request-same-length-3 : (t : ℕ) → side-request-lts.Need-same-length-3 (
   lowest-reads.Learnt,
   highest-reads.Asked,
   highest-reads.Learnt,
+  is-held-reads.Asked,
+  is-held-reads.Learnt,
   node-request-below t,
   node-request.Post,
 ) (side-request-at t) side-request.Post side-request-Inv-loop side-request-μ-loop
@@ -635,6 +742,8 @@ side-request-same-length-4 : (t : ℕ) → side-request-lts.Need-same-length-4 (
   lowest-reads.Learnt,
   highest-reads.Asked,
   highest-reads.Learnt,
+  is-held-reads.Asked,
+  is-held-reads.Learnt,
   node-request-below t,
   node-request.Post,
 ) (side-request-at t) side-request.Post side-request-Inv-loop side-request-μ-loop
@@ -646,6 +755,8 @@ side-request-returns : (t : ℕ) → side-request-lts.Need-returns (
   lowest-reads.Learnt,
   highest-reads.Asked,
   highest-reads.Learnt,
+  is-held-reads.Asked,
+  is-held-reads.Learnt,
   node-request-below t,
   node-request.Post,
 ) (side-request-at t) side-request.Post side-request-Inv-loop side-request-μ-loop
@@ -697,6 +808,8 @@ pub +node-request+side-request-spec : {M : Type 1} → statement M
       lowest-reads.Learnt,
       highest-reads.Asked,
       highest-reads.Learnt,
+      is-held-reads.Asked,
+      is-held-reads.Learnt,
       node-request-below t,
       node-request.Post,
     )
@@ -708,11 +821,16 @@ pub +node-request+side-request-spec : {M : Type 1} → statement M
     (side-request-highest-requires t)
     (side-request-add-i-end t)
     (side-request-loop-holds t)
-    (side-request-add-node-request t)
-    (side-request-node-request-requires t)
+    (side-request-add-is-held t)
+    (side-request-is-held-requires t)
     (side-request-add-i t)
     (side-request-loop-less t)
     (side-request-loop-again t)
+    (side-request-add-node-request t)
+    (side-request-node-request-requires t)
+    (side-request-add-i-2 t)
+    (side-request-loop-less-2 t)
+    (side-request-loop-again-2 t)
     (side-request-same-length t)
     (side-request-same-length-2 t)
     (side-request-same-length-3 t)
