@@ -71,7 +71,7 @@ fn size(x: u32) -> usize
     1 + size(x / 128)
 }
 
-// A number of one group, as most of a log are.
+// A number of one group.
 fn write_one(log: &mut [u8], at: usize, x: u32) -> Written
     requires { ⌜ x < 128 ⌝ }
     ensures { λ r. ⌜ r ≡ writtenAt (now (log .entry)) at x ⌝ }
@@ -93,7 +93,7 @@ fn write_two(log: &mut [u8], at: usize, x: u32) -> Written
     if log.len() <= at {
         return Written::Full;
     }
-    if log.len() - at < 2 {
+    if log.len() == at + 1 {
         return Written::Full;
     }
     log[at] = (x % 128 + 128) as u8;
@@ -123,7 +123,8 @@ fn write_groups(log: &mut [u8], at: usize, x: u32) -> Written
     Written::End(i + 1)
 }
 
-// Writes x at `at`, whether or not `read` takes as many groups. One and two groups, with no loop, are what is fast.
+// Writes x at `at`, whether or not `read` takes as many groups. Most numbers of a log have one or two groups, and need
+// no loop.
 pub fn write(log: &mut [u8], at: usize, x: u32) -> Written
     ensures { λ r. ⌜ r ≡ writtenAt (now (log .entry)) at x ⌝ }
     ensures { λ _. ⌜ now (log .exit) ≡ written (now (log .entry)) at x ⌝ }

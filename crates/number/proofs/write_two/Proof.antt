@@ -14,8 +14,8 @@ returns c =
     let h = c .before .pre in
     sets-full (a .log .now) (a .at) (a .x) _ (encode-two (a .x) (h .0) (h .1)) (omega arith)
 
-sub-if2 : tie.Need-sub-if2
-sub-if2 c = search needs
+add-if2 : tie.Need-add-if2
+add-if2 c = search needs
 
 returns-2 : tie.Need-returns-2
 returns-2 c =
@@ -59,7 +59,7 @@ write-two-spec =
     tie.close
     (tie.spec
     returns
-    sub-if2
+    add-if2
     returns-2
     add-log
     cast-log
