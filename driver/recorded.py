@@ -4,27 +4,14 @@
 #   --hex  the log's bytes
 #   disassemble, assemble   the same script; one that does not read gives the place of the byte that does not
 #   cnf    as many clauses as recorded, and no more variables than occur
-import re, subprocess, sys
+import os, re, subprocess, sys
+
+sys.dont_write_bytecode = True
+sys.path.append(os.path.join(os.path.dirname(os.path.abspath(__file__)), "../tests"))
+from answers import Fault, number, recorded
 
 driver = sys.argv[1]
 NUMBERS_AFTER = {1: 1, 2: 6, 3: 3, 4: 0}
-
-
-class Fault(Exception):
-    """No number reads; the place of the byte, from 1."""
-
-
-def number(data, at):
-    value = 0
-    for group in range(3):
-        if at + group == len(data):
-            raise Fault(at + group + 1)
-        byte = data[at + group]
-        if (group and byte == 0) or (group == 2 and byte > 127):
-            raise Fault(at + group + 1)
-        value += (byte & 127) << 7 * group
-        if byte < 128:
-            return value, at + group + 1
 
 
 def coded(value):
@@ -127,22 +114,12 @@ def check(script, log_size, answer, log):
     return place is None
 
 
-data = sys.stdin.buffer.read()
-count, at = number(data, 0)
-whole = 0
-for case in range(1, count + 1):
-    log_size, at = number(data, at)
-    length, at = number(data, at)
-    script, at = data[at : at + length], at + length
-    answer = []
-    for _ in range(6):
-        value, at = number(data, at)
-        answer.append(value)
-    log, at = data[at : at + answer[2]], at + answer[2]
+whole = count = 0
+for script, log_size, answer, log in recorded(sys.stdin.buffer.read()):
+    count += 1
     try:
         whole += check(script, log_size, answer, log)
     except AssertionError as fault:
-        sys.exit(f"driver: recorded answer {case} is not met: {fault}; script {script.hex()}, log of {log_size} bytes")
-assert at == len(data)
+        sys.exit(f"driver: recorded answer {count} is not met: {fault}; script {script.hex()}, log of {log_size} bytes")
 print(f"driver: {count} recorded answers shown and read back; {whole} scripts to text and back,", end=" ")
 print(f"{count - whole} that do not read")

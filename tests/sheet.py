@@ -4,17 +4,10 @@
 # was recorded with one that was too short or too long, that of another case with the same script is taken, or ORACLE's.
 import re, subprocess, sys
 
+sys.dont_write_bytecode = True
+from answers import number, recorded
+
 LOG = 65536
-
-
-def number(data, at):
-    value = group = 0
-    while True:
-        byte = data[at]
-        value += (byte & 127) << 7 * group
-        at, group = at + 1, group + 1
-        if byte < 128:
-            return value, at
 
 
 def clauses(log):
@@ -48,21 +41,6 @@ def sheet_of(answer, log):
     lines = sorted(clauses(log), key=lambda literals: literals[-1] // 2)  # stable: equals in log order
     assert len(lines) == written
     return f"nodes {nodes} steps {steps} clauses {written}\n" + "".join(" ".join(map(str, line)) + "\n" for line in lines)
-
-
-def recorded(data):
-    count, at = number(data, 0)
-    for _ in range(count):
-        size, at = number(data, at)
-        length, at = number(data, at)
-        script, at = data[at : at + length], at + length
-        answer = []
-        for _ in range(6):
-            value, at = number(data, at)
-            answer.append(value)
-        log, at = data[at : at + answer[2]], at + answer[2]
-        yield script, size, answer, log
-    assert at == len(data)
 
 
 def played(oracle, script):
