@@ -2,7 +2,7 @@
 use mathlib.Core.Path.{_≡_, refl, _∙_, ap}
 use mathlib.Core.Logic.{dite}
 use mathlib.Core.List.{List, [], _∷_, _++_, map, map-append}
-use Prim.Native.Nat.{ℕ, zero, suc, _+_, _-_, min, _≤_, _<_}
+use Prim.Native.Nat.{ℕ, zero, suc, _+_, _-_, min, max, _≤_, _<_}
 use native.Mathlib.Decide.{decLe, decLt}
 use native.Mathlib.Omega.{arith}
 use Rattle.totdb.specs.Nodes.{range}
@@ -57,20 +57,21 @@ count w p a = by (decLt w p)
         rw (x, y) (omega arith)
 
 -- The lowest value, and the highest.
-pub named-range : (d : Direction) (v p q low high : ℕ) → 1 ≤ v → (q < v → low ≡ v - q) → (v ≤ q → low ≡ 1) → high ≡ min v p
+pub named-range : (d : Direction) (v p q low high : ℕ) → 1 ≤ v → low ≡ max 1 (v - q) → high ≡ min v p
     → named d v p q ≡ range low (suc high - low)
 unfolding named splits
-named-range if v p q low high h a b e = by (decLt q v)
+named-range if v p q low high h l e = by (decLt q v)
   where
     by : Dec (q < v) → positive (range (v - q) (suc (min v p) - (v - q))) ≡ range low (suc high - low)
-    by (yes k) = rw (a k, e) (positive-range (v - q) (suc (min v p) - (v - q)) (omega arith))
+    by (yes k) = let w : low ≡ v - q = omega arith in rw (w, e) (positive-range (v - q) (suc (min v p) - (v - q)) (omega arith))
     by (no k) =
+        let w : low ≡ 1 = omega arith in
         let x : v - q ≡ 0 = omega arith in
         let y : suc (min v p) - 0 ≡ suc (min v p) = omega arith in
         let z : suc (min v p) - 1 ≡ min v p = omega arith in
-        rw (x, y, b (omega arith), e, z) (positive-zero (min v p))
-named-range only-if v p q low high h a b e =
-    let x : suc (v - 1 - q) ≡ low = lowest (decLt q v) in
+        rw (x, y, w, e, z) (positive-zero (min v p))
+named-range only-if v p q low high h l e =
+    let x : suc (v - 1 - q) ≡ low = omega arith in
     let z : min (suc (min (v - 1) p) - (v - 1 - q)) (suc p - low) ≡ suc high - low = counted (v - 1 - q) low x in
     ap (within p) (suc-range (v - 1 - q) (suc (min (v - 1) p) - (v - 1 - q)))
     ∙ within-range p (suc (v - 1 - q)) (suc (min (v - 1) p) - (v - 1 - q)) ∙ rw (x, z)
@@ -78,10 +79,6 @@ named-range only-if v p q low high h a b e =
     counted : (a b : ℕ) → suc a ≡ b → min (suc (min (v - 1) p) - a) (suc p - b) ≡ suc high - b
     counted a b x = let y : suc (v - 1) ≡ v = omega arith in
         rw (← x, e) (count (v - 1) p a ∙ rw y)
-
-    lowest : Dec (q < v) → suc (v - 1 - q) ≡ low
-    lowest (yes k) = omega (arith, a k)
-    lowest (no k) = omega (arith, b (omega arith))
 
 -- One more of them.
 pub below-more : (d : Direction) (s : Side) (a n : ℕ)

@@ -2,7 +2,7 @@
 use mathlib.Core.Path.{_≡_, refl, sym, _∙_}
 use mathlib.Core.Bool.{Bool, true, false}
 use mathlib.Core.List.{List, [], _∷_, flatMap, append-nil, List·Memᴰ}
-use Prim.Native.Nat.{ℕ, suc, zero, _+_, _-_, _*_, min, _≤_, _<_}
+use Prim.Native.Nat.{ℕ, suc, zero, _+_, _-_, _*_, min, max, _≤_, _<_}
 use native.Mathlib.Omega.{arith}
 use lib.Dec.{eqb}
 use lib.ListN.{length, getD, set}
@@ -198,10 +198,10 @@ module _ {ls os : List ℕ} where
           (b .does c t (each (askFor t) (below d z (range low (i - low))) s) y (asked-below y w i (omega arith) k) (a .does c t s y w x));
     }
 
-    pub side-done : {m b : Memory} (low high i : ℕ) → (q < v → low ≡ v - q) → (v ≤ q → low ≡ 1) → high ≡ min v p → i - low ≡ suc high - low → Lower ls os ns z p q v d low i m b
+    pub side-done : {m b : Memory} (low high i : ℕ) → low ≡ max 1 (v - q) → high ≡ min v p → i - low ≡ suc high - low → Lower ls os ns z p q v d low i m b
         → Side-asks ls os ns z p q v d m b
-    side-done low high i f g h e a = record {
-      does = λ c t s y w x. rw (named-range d v p q low high (w .above) f g h, ← e) (a .does c t s y w x);
+    side-done low high i f h e a = record {
+      does = λ c t s y w x. rw (named-range d v p q low high (w .above) f h, ← e) (a .does c t s y w x);
     }
 
   -- ---- both, each_direction, request

@@ -4,7 +4,7 @@ use define::Out;
 use totdb::Side;
 ghost use mathlib.Core.Path.{_≡_};
 ghost use mathlib.Core.Bool.{true, false};
-ghost use Prim.Native.Nat.{_+_, _-_, _≤_, _<_, min};
+ghost use Prim.Native.Nat.{_+_, _-_, _≤_, _<_, min, max};
 ghost use lib.ListN.{length, getD};
 ghost use Rattle.memo.specs.Visit.{each};
 ghost use Rattle.cert.specs.Requests.{request, needs, below, named};
@@ -76,8 +76,7 @@ fn is_held(held: &[u8], node: usize, value: usize, only_if: bool) -> bool
 
 // The literals that a value names on a side of p literals, beside one of q: the lowest and the highest.
 fn lowest(value: usize, q: usize) -> usize
-    requires { ⌜ 1 ≤ value ⌝ }
-    ensures { λ r. ⌜ (q < value → r ≡ value - q) × (value ≤ q → r ≡ 1) × (1 ≤ r) ⌝ }
+    ensures { λ r. ⌜ r ≡ max 1 (value - q) ⌝ }
 {
     if q < value { value - q } else { 1 }
 }

@@ -494,8 +494,7 @@ side-request-lowest-requires : (t : ℕ) → side-request-lts.Need-lowest-requir
   node-request-below t,
   node-request.Post,
 ) (side-request-at t) side-request.Post side-request-Inv-loop side-request-μ-loop
-side-request-lowest-requires t c κs =
-    c .before .before .before .before .before .before .before .pre .1 .1 .holds .above
+side-request-lowest-requires t c κs = tt
 
 side-request-highest-requires : (t : ℕ) → side-request-lts.Need-highest-requires (
   lowest-reads.Asked,
@@ -614,7 +613,7 @@ side-request-loop-again t c =
       omega (arith, l .loop .inv .0, c .before .before .before .before .loop-test .taken),
       l .loop .inv .2,
       l .loop .inv .3,
-      side-more (direction _) _ _ (l .loop .inv .0) (l .before .before .lowest .ensures .2) high (l .loop .inv .4)
+      side-more (direction _) _ _ (l .loop .inv .0) (omega (arith, l .before .before .lowest .ensures)) high (l .loop .inv .4)
           (held-asks (direction _) (sym (c .before .is-held .ensures) ∙ c .if1 .taken)),
     )
 
@@ -695,7 +694,7 @@ side-request-loop-again-2 t c =
       omega (arith, l .loop .inv .0, c .before .before .before .before .before .before .before .before .before .before .before .before .before .before .before .before .before .before .loop-test .taken),
       tables-kept _ _ _ (l .loop .inv .2) (k .kept .1 .1 .1 .0) (k .kept .1 .1 .1 .1 .0) (k .kept .1 .1 .1 .1 .1 .0),
       k .kept .1 .1 .1 .1 .1 .1 .0 ∙ l .loop .inv .3,
-      side-more (direction _) _ _ (l .loop .inv .0) (l .before .before .lowest .ensures .2) high (l .loop .inv .4) (k .ensures),
+      side-more (direction _) _ _ (l .loop .inv .0) (omega (arith, l .before .before .lowest .ensures)) high (l .loop .inv .4) (k .ensures),
     )
 
 side-request-same-length : (t : ℕ) → side-request-lts.Need-same-length (
@@ -762,7 +761,7 @@ side-request-returns : (t : ℕ) → side-request-lts.Need-returns (
 ) (side-request-at t) side-request.Post side-request-Inv-loop side-request-μ-loop
 side-request-returns t c =
     let l = c .before in
-    side-done (direction _) _ _ (l .loop .i) (l .before .before .lowest .ensures .0) (l .before .before .lowest .ensures .1) (l .before .highest .ensures)
+    side-done (direction _) _ _ (l .loop .i) (l .before .before .lowest .ensures) (l .before .highest .ensures)
     (omega (arith, l .loop .inv .0, l .loop .inv .1, c .loop-test .left)) (l .loop .inv .4)
 
 pub +node-request+side-request-spec : {M : Type 1} → statement M
