@@ -10,6 +10,7 @@
 // ---- numbers.c: byte strings, and the numbers of scripts and logs
 
 enum { MOST_NUMBER = (1 << 21) - 1 }; // three groups of seven bits hold no more
+#define NUMBER_RANGE "a number from 0 to 2097151" // MOST_NUMBER, in messages
 
 struct bytes {
     uint8_t *at;

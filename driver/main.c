@@ -118,7 +118,7 @@ int main(int argc, char **argv) {
     if (to_play || to_cnf) {
         uint32_t log_size = TOTLOG_MOST_BYTES;
         if (count == 3 && !parse_number(words[2], strlen(words[2]), &log_size))
-            stop(words[2], "expected the log's size, a number from 0 to 2097151");
+            stop(words[2], "expected the log's size, " NUMBER_RANGE);
         struct play p;
         if (!play(&p, file, is_text, log_size)) return 1;
         bool accepted = p.answer[NUMBER] == TOTLOG_ACCEPTED, reads = true;

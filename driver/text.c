@@ -180,7 +180,7 @@ bool assemble(const char *name, const struct bytes *text, struct bytes *script) 
         const struct form *f = &forms[code];
         if (has_head) put_number(script, (uint32_t)code);
         for (int i = 0; i < f->count; i++) {
-            const char *kind = is_direction(f, i) ? ", if, only-if or both" : ", a number from 0 to 2097151";
+            const char *kind = is_direction(f, i) ? ", if, only-if or both" : ", " NUMBER_RANGE;
             uint32_t number;
             if (1 + i >= count) return unexpected(name, l.number, NULL, f->parts[i], kind);
             if (!parse_part(w[1 + i], f, i, &number)) return unexpected(name, l.number, &w[1 + i], f->parts[i], kind);

@@ -23,7 +23,7 @@
 enum {
     LONGEST = 1 << 20,   // bytes of a slice
     GUARD = 64,          // bytes beside a slice that must stay as they were
-    ANSWER = 24,         // bytes of an answer
+    ANSWER = TOTLOG_ANSWER_BYTES,
     MOST_ANSWER = 40,    // bytes of the longest slice lent for it
     SHOWN = 5,           // cases that are not met and shown
     SHOWN_SCRIPT = 2000, // bytes of a script that are shown

@@ -34,7 +34,7 @@ unfolding decLe
 within p [] = []
 within p (a ∷ l) = dite (decLe a p) (λ _. a ∷ within p l) (λ _. within p l)
 
--- The literals that the clauses of value v name on a side of length p, where the other has length q, ascending.
+-- The indices of the literals that the clauses of value v name on a side of length p, where the other has length q, ascending.
 unfoldable pub named : Direction → ℕ → ℕ → ℕ → List ℕ
 unfolding splits positive within
 named if v p q = positive (splits v p q)

@@ -37,7 +37,7 @@ keys s = map {B = Key} (λ (e : Stored). e .key) (s .stored)
 
 -- ---- the steps of what is stored
 
--- The first step of a key (0 where it is not stored, which does not arise).
+-- The first step of a key; 0 where it is not stored, as the code's table has it. No derivation names that 0.
 unfoldable pub fromIn : List Stored → Key → ℕ
 unfolding key-dec
 fromIn [] k = 0

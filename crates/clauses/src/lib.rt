@@ -31,7 +31,7 @@ pub struct Join {
 
 // A leaf, or a window of length 1: its one literal, at 0, at its own value and above.
 fn one_definition(literal: u32, value: usize, only_if: bool) -> SemDefinition
-    ensures { λ r. ⌜ ((step-at : Key → ℕ → ℕ) → r ≡ operand step-at (oneDef literal value (direction «only_if»))) ⌝ }
+    ensures { λ r. ⌜ ((at-step : Key → ℕ → ℕ) → r ≡ operand at-step (oneDef literal value (direction «only_if»))) ⌝ }
 {
     if only_if {
         if value == 0 {

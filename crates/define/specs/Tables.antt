@@ -19,7 +19,7 @@ use Rattle.define.specs.declared.Out.{Out}
 
 -- ---- the lists of the nodes: 319 rows of 64 literals
 
--- The leaf list and the output list of node n. The bound keeps a literal, and its place in a sum, in a u32.
+-- The leaf list and the output list of node n. The bound keeps a literal, and the witness made of it (plus 1), in a u32.
 pub record Row (ls os : List ℕ) (n : ℕ) (x : Node) : Type 0 where
   pub short : len x ≤ 64
   pub leaf-list : take (len x) (drop (64 * n) ls) ≡ leaves x
@@ -65,6 +65,7 @@ Used t (window n f m) = WindowOf t n f m
 
 -- ---- requests: 319 rows of 128 flags
 
+-- The place of a request's flag.
 unfoldable pub place : Request → ℕ
 place (request n v if) = 128 * n + (2 * v - 2)
 place (request n v only-if) = 128 * n + (2 * v - 1)

@@ -54,22 +54,26 @@ Demand1 = (bs : List ℕ) (capacity : ℕ) → Ends bs capacity × Padded capaci
 -- totalizer of Bailleux and Boufkhad, and each derivation, worked out by the cutting-planes rules, comes to exactly the clause or window definition it is
 -- written for." (That the log equals what the Rust records is not stated here: crate `recorded` holds `played` to answers recorded from the Rust.)
 
+-- The members of xs are just those that P holds of.
+abbrev pub Enumerates : {A : Type 0} → List A → (A → Type 0) → Type 0
+Enumerates {A} xs P = (a : A) → (List·Memᴰ a xs → P a) × (P a → List·Memᴰ a xs)
+
 -- The records of an accepted script: `served` are its requests and all they need below,
 -- `stored` the definitions that their clauses look up, each once.
 pub record Proved (h : Head) (cs : List Command) (rs : List Record) : Type 0 where
   pub served : List Request
   pub served-once : List·Nodup served
-  pub served-are : (x : Request) → (List·Memᴰ x served → Closure h cs x) × (Closure h cs x → List·Memᴰ x served)
+  pub served-are : Enumerates served (Closure h cs)
   -- the clauses are the totalizer's, for each request served
   pub clauses-are : clauses rs ≡ flatMap (totalizer (table h cs)) served
   -- the step that a clause record names comes to its clause
   pub clause-steps : (n : ℕ) (ls : List ℕ) → List·Memᴰ (Record.clause n ls) rs → stepOf (h .step) rs n ≡ some (normal (clauseSum ls))
   pub stored : List Key
   pub stored-once : List·Nodup stored
-  pub stored-are : (k : Key) → (List·Memᴰ k stored → KeyCalled h cs k) × (KeyCalled h cs k → List·Memᴰ k stored)
+  pub stored-are : Enumerates stored (KeyCalled h cs)
   -- every sum, and what every other derivation comes to, is the definition it is written for
   pub definitions : defined (h .step) rs ≡ flatMap (definedBy (table h cs)) stored
-  -- and there are no further steps
+  -- and each clause has a derivation of its own
   pub steps-split : steps rs ≡ length (defined (h .step) rs) + length (clauses rs)
 
 unfoldable pub Demand2 : Type 0
@@ -100,7 +104,7 @@ pub record Matching (h : Head) (o p : Outcome) (rs qs : List Record) : Type 0 wh
 
 -- The clauses are those that the script calls for; the sums are those of the keys called for, as demand 2 has them.
 pub record Listed (h : Head) (cs : List Command) (rs : List Record) : Type 0 where
-  pub clauses-listed : (c : List ℕ) → (List·Memᴰ c (clauses rs) → Called h cs c) × (Called h cs c → List·Memᴰ c (clauses rs))
+  pub clauses-listed : Enumerates (clauses rs) (Called h cs)
   pub proved : Proved h cs rs
 
 unfoldable pub Demand3 : Type 0

@@ -150,9 +150,9 @@ pub fn put_if_part(
     literal: u32,
 ) -> Cursor
     requires { ⌜ s ≤ 64 ⌝ }
-    ensures { λ r. ⌜ ((step-at : Key → ℕ → ℕ) (n : ℕ) (x : Node)
-        → step-at (real n v) 0 ≡ this → step-at (real n s) 1 ≡ that → output x s ≡ literal
-        → Puts (buffer (now (log .entry)) c) (tokenNumbers (ifPart step-at n x v s)) (buffer (now (log .exit)) r)) ⌝ }
+    ensures { λ r. ⌜ ((at-step : Key → ℕ → ℕ) (n : ℕ) (x : Node)
+        → at-step (real n v) 0 ≡ this → at-step (real n s) 1 ≡ that → output x s ≡ literal
+        → Puts (buffer (now (log .entry)) c) (tokenNumbers (ifPart at-step n x v s)) (buffer (now (log .exit)) r)) ⌝ }
 {
     if s < v {
         return put_definition(log, c, SemDefinition::Axiom(pb::neg(literal)));
@@ -174,9 +174,9 @@ pub fn put_only_if_part(
     literal: u32,
 ) -> Cursor
     requires { ⌜ v ≤ 64 ⌝ }
-    ensures { λ r. ⌜ ((step-at : Key → ℕ → ℕ) (n : ℕ) (x : Node)
-        → step-at (real n v) 1 ≡ this → step-at (real n s) 0 ≡ that → output x s ≡ literal
-        → Puts (buffer (now (log .entry)) c) (tokenNumbers (onlyIfPart step-at n x v s)) (buffer (now (log .exit)) r)) ⌝ }
+    ensures { λ r. ⌜ ((at-step : Key → ℕ → ℕ) (n : ℕ) (x : Node)
+        → at-step (real n v) 1 ≡ this → at-step (real n s) 0 ≡ that → output x s ≡ literal
+        → Puts (buffer (now (log .entry)) c) (tokenNumbers (onlyIfPart at-step n x v s)) (buffer (now (log .exit)) r)) ⌝ }
 {
     if s < v {
         return put_divided(log, c, this, that, v - s + 1);

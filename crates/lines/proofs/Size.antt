@@ -22,9 +22,8 @@ use Rattle.demands.specs.Demands.{Ends, finished, head-refused, command-refused
 use Rattle.demands.proofs.Demand1.{demand-1}
 use Rattle.text.specs.Text.{decimal, spaced}
 use Rattle.text.proofs.Laws.{decimal-length}
-use Rattle.lines.specs.Printed.{mostSheet}
 use Rattle.listing.specs.Line.{line}
-use Rattle.lines.specs.Sheet.{header, refusal, sheet}
+use Rattle.lines.specs.Sheet.{header, refusal, sheet, mostSheet}
 use Rattle.lines.proofs.Played.{held-log}
 use Rattle.lines.proofs.Printed.{printed, refused}
 

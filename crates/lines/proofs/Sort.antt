@@ -7,7 +7,7 @@ use native.Mathlib.Omega.{arith}
 use borrow.Author.Tests.{ltb-true, ltb-false, le-ltb, not-true}
 use Rattle.player.proofs.Refusal.{and-true}
 use Rattle.listing.specs.Order.{lastVariable, before, insert, insertAll, sortBy}
-use Rattle.lines.specs.Printed.{Ordered, level, those}
+use Rattle.lines.specs.Printed.{Ordered, level, filterBy}
 
 -- ---- permutation
 
@@ -90,21 +90,21 @@ module _ {A : Type 0} {lt : A → A → Bool} (w : Weak lt) where
 -- ---- elements that are level
 
 module _ {A : Type 0} (p : A → Bool) where
-  those-append : (xs ys : List A) → those p (xs ++ ys) ≡ those p xs ++ those p ys
-  unfolding those
-  those-append [] ys = refl
-  those-append (x ∷ xs) ys = by (p x) (those-append xs ys)
+  filter-append : (xs ys : List A) → filterBy p (xs ++ ys) ≡ filterBy p xs ++ filterBy p ys
+  unfolding filterBy
+  filter-append [] ys = refl
+  filter-append (x ∷ xs) ys = by (p x) (filter-append xs ys)
     where
-      by : (b : Bool) → those p (xs ++ ys) ≡ those p xs ++ those p ys
-          → elim b as (λ _. List A) [ true ↦ x ∷ those p (xs ++ ys) | false ↦ those p (xs ++ ys) ]
-          ≡ elim b as (λ _. List A) [ true ↦ x ∷ those p xs | false ↦ those p xs ] ++ those p ys
+      by : (b : Bool) → filterBy p (xs ++ ys) ≡ filterBy p xs ++ filterBy p ys
+          → elim b as (λ _. List A) [ true ↦ x ∷ filterBy p (xs ++ ys) | false ↦ filterBy p (xs ++ ys) ]
+          ≡ elim b as (λ _. List A) [ true ↦ x ∷ filterBy p xs | false ↦ filterBy p xs ] ++ filterBy p ys
       by true e = ap (λ (l : List A). x ∷ l) e
       by false e = e
 
-  those-none : (xs : List A) → ((x : A) → List·Memᴰ x xs → p x ≡ false) → those p xs ≡ []
-  unfolding those
-  those-none [] h = refl
-  those-none (x ∷ xs) h = rw (h x (List·Memᴰ·head refl), those) (those-none xs (λ y m. h y (List·Memᴰ·tail m)))
+  filter-none : (xs : List A) → ((x : A) → List·Memᴰ x xs → p x ≡ false) → filterBy p xs ≡ []
+  unfolding filterBy
+  filter-none [] h = refl
+  filter-none (x ∷ xs) h = rw (h x (List·Memᴰ·head refl), filterBy) (filter-none xs (λ y m. h y (List·Memᴰ·tail m)))
 
 module _ {A : Type 0} {lt : A → A → Bool} (w : Weak lt) (c : A) where
   -- What is level with c does not come after an element that something level with c goes before.
@@ -118,33 +118,33 @@ module _ {A : Type 0} {lt : A → A → Bool} (w : Weak lt) (c : A) where
           let cz : lt c z ≡ false = not-true (lt c z) (and-true (notb (lt c z)) (notb (lt z c)) e .0) in
           sym l ∙ w .cotrans y z x n (w .cotrans z c x cz xc)
 
-  insert-those : (x : A) (ys : List A) → Ordered lt ys → those (level lt c) (insert lt x ys) ≡ those (level lt c) (ys ++ (x ∷ []))
-  unfolding insert those Ordered
-  insert-those x [] o = refl
-  insert-those x (y ∷ ys) o = by (lt x y) refl (insert-those x ys (o .1))
+  insert-filter : (x : A) (ys : List A) → Ordered lt ys → filterBy (level lt c) (insert lt x ys) ≡ filterBy (level lt c) (ys ++ (x ∷ []))
+  unfolding insert filterBy Ordered
+  insert-filter x [] o = refl
+  insert-filter x (y ∷ ys) o = by (lt x y) refl (insert-filter x ys (o .1))
     where
-      by : (b : Bool) → lt x y ≡ b → those (level lt c) (insert lt x ys) ≡ those (level lt c) (ys ++ (x ∷ []))
-          → those (level lt c) (elim b as (λ _. List A) [ true ↦ x ∷ y ∷ ys | false ↦ y ∷ insert lt x ys ]) ≡ those (level lt c) (y ∷ (ys ++ (x ∷ [])))
-      by true e ih = those-append (level lt c) (x ∷ []) (y ∷ ys) ∙ swap (level lt c x) refl ∙ sym (those-append (level lt c) (y ∷ ys) (x ∷ []))
+      by : (b : Bool) → lt x y ≡ b → filterBy (level lt c) (insert lt x ys) ≡ filterBy (level lt c) (ys ++ (x ∷ []))
+          → filterBy (level lt c) (elim b as (λ _. List A) [ true ↦ x ∷ y ∷ ys | false ↦ y ∷ insert lt x ys ]) ≡ filterBy (level lt c) (y ∷ (ys ++ (x ∷ [])))
+      by true e ih = filter-append (level lt c) (x ∷ []) (y ∷ ys) ∙ swap (level lt c x) refl ∙ sym (filter-append (level lt c) (y ∷ ys) (x ∷ []))
         where
           swap : (b : Bool) → level lt c x ≡ b
-              → those (level lt c) (x ∷ []) ++ those (level lt c) (y ∷ ys) ≡ those (level lt c) (y ∷ ys) ++ those (level lt c) (x ∷ [])
-          swap true l = rw (those-none (level lt c) (y ∷ ys) (λ z m. not-level x y z l e (none-before w y ys o z m))) (append-nil (those (level lt c) (x ∷ [])))
+              → filterBy (level lt c) (x ∷ []) ++ filterBy (level lt c) (y ∷ ys) ≡ filterBy (level lt c) (y ∷ ys) ++ filterBy (level lt c) (x ∷ [])
+          swap true l = rw (filter-none (level lt c) (y ∷ ys) (λ z m. not-level x y z l e (none-before w y ys o z m))) (append-nil (filterBy (level lt c) (x ∷ [])))
           swap false l =
-              rw (those-none (level lt c) (x ∷ []) (λ z m. ⊎-elim (λ q. rw q l) (λ i. absurd (List·Memᴰ·not-nil i)) (List·Memᴰ·cases-cons m)))
-              (sym (append-nil (those (level lt c) (y ∷ ys))))
-      by false e ih = those-append (level lt c) (y ∷ []) (insert lt x ys) ∙ rw ih (sym (those-append (level lt c) (y ∷ []) (ys ++ (x ∷ []))))
+              rw (filter-none (level lt c) (x ∷ []) (λ z m. ⊎-elim (λ q. rw q l) (λ i. absurd (List·Memᴰ·not-nil i)) (List·Memᴰ·cases-cons m)))
+              (sym (append-nil (filterBy (level lt c) (y ∷ ys))))
+      by false e ih = filter-append (level lt c) (y ∷ []) (insert lt x ys) ∙ rw ih (sym (filter-append (level lt c) (y ∷ []) (ys ++ (x ∷ []))))
 
-  all-those : (ys xs : List A) → Ordered lt ys → those (level lt c) (insertAll lt ys xs) ≡ those (level lt c) (ys ++ xs)
+  all-filter : (ys xs : List A) → Ordered lt ys → filterBy (level lt c) (insertAll lt ys xs) ≡ filterBy (level lt c) (ys ++ xs)
   unfolding insertAll
-  all-those ys [] o = rw append-nil
-  all-those ys (x ∷ xs) o =
-      all-those (insert lt x ys) xs (insert-ordered w x ys o) ∙ those-append (level lt c) (insert lt x ys) xs
-      ∙ rw (insert-those x ys o, ← those-append (level lt c) (ys ++ (x ∷ [])) xs, append-assoc)
+  all-filter ys [] o = rw append-nil
+  all-filter ys (x ∷ xs) o =
+      all-filter (insert lt x ys) xs (insert-ordered w x ys o) ∙ filter-append (level lt c) (insert lt x ys) xs
+      ∙ rw (insert-filter x ys o, ← filter-append (level lt c) (ys ++ (x ∷ [])) xs, append-assoc)
 
-  pub sort-stable : (xs : List A) → those (level lt c) (sortBy lt xs) ≡ those (level lt c) xs
+  pub sort-stable : (xs : List A) → filterBy (level lt c) (sortBy lt xs) ≡ filterBy (level lt c) xs
   unfolding Ordered
-  sort-stable xs = all-those [] xs tt
+  sort-stable xs = all-filter [] xs tt
 
 -- ---- a map
 

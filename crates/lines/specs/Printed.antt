@@ -19,9 +19,9 @@ abbrev pub level : {A : Type 0} → (A → A → Bool) → A → A → Bool
 level lt x y = notb (lt x y) && notb (lt y x)
 
 -- The elements that pass a test.
-unfoldable pub those : {A : Type 0} → (A → Bool) → List A → List A
-those p [] = []
-those p (x ∷ xs) = elim (p x) [ true ↦ x ∷ those p xs | false ↦ those p xs ]
+unfoldable pub filterBy : {A : Type 0} → (A → Bool) → List A → List A
+filterBy p [] = []
+filterBy p (x ∷ xs) = elim (p x) [ true ↦ x ∷ filterBy p xs | false ↦ filterBy p xs ]
 
 pub record Printed (script : List ℕ) (rs : List Record) : Type 0 where
   pub lines : List (List ℕ)
@@ -29,8 +29,4 @@ pub record Printed (script : List ℕ) (rs : List Record) : Type 0 where
       ≡ header (played script mostBytes .nodes) (played script mostBytes .steps) (played script mostBytes .clauses) ++ flatMap line lines
   pub each-as-often : Perm lines (clauses rs)
   pub ordered : Ordered before lines
-  pub equals-in-log-order : (c : List ℕ) → those (level before c) lines ≡ those (level before c) (clauses rs)
-
--- The most bytes of a sheet: a line has at most four bytes for each byte of its record, and the header takes 64 at most.
-abbrev pub mostSheet : ℕ
-mostSheet = 262208
+  pub equals-in-log-order : (c : List ℕ) → filterBy (level before c) lines ≡ filterBy (level before c) (clauses rs)

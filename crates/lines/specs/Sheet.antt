@@ -1,7 +1,7 @@
 -- The sheet of a script: what the program prints, byte by byte.
 use mathlib.Core.Option.{none, some}
 use mathlib.Core.List.{List, [], _∷_, _++_, flatMap}
-use Prim.Native.Nat.{ℕ, zero, suc}
+use Prim.Native.Nat.{ℕ, zero, suc, _+_, _*_}
 use lib.ListN.{take}
 use Rattle.text.specs.Text.{spaced}
 use Rattle.record.specs.Record.{clauses, decodeLog}
@@ -9,7 +9,7 @@ use Rattle.player.specs.Player.{Outcome, played, mostBytes}
 use Rattle.listing.specs.Line.{newline, line}
 use Rattle.listing.specs.Order.{before, sortBy}
 
--- `nodes`, `steps`, `clauses`, `refused` and `at`, in ASCII.
+-- `nodes`, `steps`, `clauses`, `refused` and `at`, in ASCII; those after a number with a space before them.
 abbrev pub nodesWord : List ℕ
 nodesWord = 110 ∷ 111 ∷ 100 ∷ 101 ∷ 115 ∷ []
 
@@ -53,3 +53,7 @@ sheetOf o =
 -- The script is played with a log of 65,536 bytes.
 abbrev pub sheet : List ℕ → List ℕ
 sheet script = sheetOf (played script mostBytes)
+
+-- The most bytes of a sheet: a line has at most four bytes for each byte of its record, and the header at most 64.
+abbrev pub mostSheet : ℕ
+mostSheet = 4 * mostBytes + 64

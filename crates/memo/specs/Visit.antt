@@ -1,4 +1,4 @@
--- Memoised depth-first service: an item is served once, after what it needs; one that is there already is skipped.
+-- Memoised depth-first traversal in post-order: an item is served once, after what it needs; one that is there already is skipped.
 use mathlib.Core.Path.{_≡_}
 use mathlib.Core.Logic.{⊎-elim, dite}
 use mathlib.Core.List.{List, [], _∷_, flatMap, List·Memᴰ, List·Memᴰ·head, List·Memᴰ·tail, List·Memᴰ·cases-cons, List·Memᴰ·not-nil}

@@ -1,4 +1,5 @@
--- The rules of cutting planes, and what a derivation comes to: left operand, right operand, operation, in normal form after every token.
+-- The rules of cutting planes, and what a derivation comes to: left operand, right operand, operation (reverse Polish notation), in normal
+-- form after every token.
 use mathlib.Core.List.{List, [], _∷_, _++_}
 use mathlib.Core.Option.{Option, none, some, bind}
 use Prim.Native.Nat.{ℕ, zero, suc, _+_, _-_, _/_, min}

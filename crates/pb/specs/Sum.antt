@@ -21,7 +21,7 @@ neg l = l + 1 - 2 * (l % 2)
 pub data Term : Type 0 where
   _·_ : ℕ → ℕ → Term
 
--- That the terms come to at least the bound. A literal may stand in several terms, and beside its negation.
+-- A pseudo-Boolean constraint: the terms come to at least the bound. A literal may stand in several terms, and beside its negation.
 pub record Sum : Type 0 where
   pub terms : List Term
   pub bound : ℕ

@@ -30,7 +30,7 @@ use Rattle.player.specs.Passes.{AllPassed, all-done, all-more}
 use Rattle.player.specs.Player.{make, delete, firstNo, questions, act, headFits}
 use Rattle.player.specs.declared.Command.{Command}
 use Rattle.player.proofs.Counts.{counted-act, all-keep}
-use Rattle.player.proofs.Refusal.{and-true, start-empty}
+use Rattle.player.proofs.Refusal.{and-true, start-empty, passed-fits}
 use Rattle.player.proofs.Sound.{Sound, request-fits, requests-asked, serve-nodes, requests-right, sound-start}
 use Rattle.player.proofs.Tree.{Treed, treed-start, few-variables, treed-act}
 use Rattle.player.proofs.Values.{AllBelow, below-map, below-append, below-at, LowNode, below-mono, DefLow, values, keyRecords-below, clauseTokens-below, log-small}
@@ -386,7 +386,7 @@ all-low {h} b v l a = all-keep (Low h b) (low-act h b v l) a (sound-start h) (lo
 all-fit : {h : Head} {capacity : ℕ} {cs : List Command} {s u : State} → AllPassed h capacity cs s u → length (bytes (s .log)) ≤ capacity
     → length (bytes (u .log)) ≤ capacity
 all-fit all-done l = l
-all-fit (all-more q a) l = all-fit a (q .fits)
+all-fit (all-more q a) l = all-fit a (passed-fits q)
 
 most-three : 2097152 ≡ 128 ^ groups
 most-three = refl

@@ -58,8 +58,10 @@ play-passed h capacity c s u e = by (firstNo (questions h (s .nodes) c)) refl (u
     by (suc n) q k = absurd (let z : _≡_ {A = ℕ} 0 1 = cc in omega arith)
     by zero q k =
         let p = verdict-accepted (firstNo (lastQuestions capacity s (act c s))) (act c s) u k in
-        let l = last-passed capacity s (act c s) (p .0) in
-        record { asked = q; after = p .1; offered = rw (p .1) at (l .0); fits = rw (p .1) at (l .1) }
+        record { asked = q; after = p .1; last = rw (p .1) at (p .0) }
+
+pub passed-fits : {h : Head} {capacity : ℕ} {c : Command} {s u : State} → Passed h capacity c s u → length (bytes (u .log)) ≤ capacity
+passed-fits {h} {capacity} {c} {s} {u} p = last-passed capacity s u (p .last) .1
 
 -- A command that passes, with the same or another capacity.
 module _ (h : Head) (capacity other : ℕ) (c : Command) (s u : State) (p : Passed h capacity c s u) where
@@ -69,11 +71,11 @@ module _ (h : Head) (capacity other : ℕ) (c : Command) (s u : State) (p : Pass
 
   pub play-fits : length (bytes (u .log)) ≤ other → play h other c s ≡ accepted u
   unfolding lastQuestions firstNo verdict
-  play-fits l = play-last ∙ rw (p .offered, le-leb (length (bytes (u .log))) other l)
+  play-fits l = play-last ∙ rw (last-passed capacity s u (p .last) .0, le-leb (length (bytes (u .log))) other l)
 
   pub play-full : other < length (bytes (u .log)) → play h other c s ≡ refused 14
   unfolding lastQuestions firstNo verdict
-  play-full l = play-last ∙ rw (p .offered, lt-leb (length (bytes (u .log))) other l)
+  play-full l = play-last ∙ rw (last-passed capacity s u (p .last) .0, lt-leb (length (bytes (u .log))) other l)
 
 pub play-refused : (h : Head) (capacity : ℕ) (c : Command) (s : State) (m : ℕ) → play h capacity c s ≡ refused m → 0 < m
 play-refused h capacity c s m e = by (firstNo (questions h (s .nodes) c)) (unfold play in e)
@@ -168,7 +170,7 @@ plays-padded h capacity ending (c ∷ cs) p s l = by (play h capacity c s) refl 
         → ((u : State) → length (bytes (u .log)) ≤ capacity → Padded capacity (plays h capacity ending cs (suc p) u))
         → Padded capacity (plays h capacity ending (c ∷ cs) p s)
     by (refused m) k ih = rw (plays-refused h capacity ending c cs p s m k) (outcome-padded capacity m (suc p) s l)
-    by (accepted u) k ih = rw (plays-accepted h capacity ending c cs p s u k) (ih u (play-passed h capacity c s u k .fits))
+    by (accepted u) k ih = rw (plays-accepted h capacity ending c cs p s u k) (ih u (passed-fits (play-passed h capacity c s u k)))
 
 pub start-empty : (h : Head) (capacity : ℕ) → length (bytes (start h .log)) ≤ capacity
 unfolding start bytes

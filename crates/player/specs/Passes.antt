@@ -1,12 +1,11 @@
 -- A script that passes every question, said of its commands and their states alone.
 use mathlib.Core.Path.{_≡_}
-use mathlib.Core.Bool.{true, false}
+use mathlib.Core.Bool.{true}
 use mathlib.Core.List.{List, [], _∷_}
 use Prim.Native.Nat.{ℕ, _≤_}
-use lib.ListN.{length, drop}
-use Rattle.record.specs.Record.{bytes}
+use lib.ListN.{length}
 use Rattle.cert.specs.State.{State, start, Head}
-use Rattle.player.specs.Player.{firstNo, questions, anyLacks, act, headFits, mostBytes}
+use Rattle.player.specs.Player.{firstNo, questions, lastQuestions, act, headFits, mostBytes}
 use Rattle.player.specs.Script.{Commands, script, readScript}
 use Rattle.player.specs.declared.Command.{Command}
 
@@ -14,8 +13,7 @@ use Rattle.player.specs.declared.Command.{Command}
 pub record Passed (h : Head) (capacity : ℕ) (c : Command) (s u : State) : Type 0 where
   pub asked : firstNo (questions h (s .nodes) c) ≡ 0
   pub after : act c s ≡ u
-  pub offered : anyLacks (u .nodes) (drop (length (s .held)) (u .held)) ≡ false
-  pub fits : length (bytes (u .log)) ≤ capacity
+  pub last : firstNo (lastQuestions capacity s u) ≡ 0
 
 pub data AllPassed (h : Head) (capacity : ℕ) : List Command → State → State → Type 0 where
   all-done : {s : State} → AllPassed h capacity [] s s

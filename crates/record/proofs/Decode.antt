@@ -9,28 +9,29 @@ use Rattle.number.specs.Number.{groups, encode, number, read}
 use Rattle.number.proofs.Laws.{encode-some, read-encode}
 use Rattle.pb.specs.Rules.{Token, step, literal, add, divide, saturate}
 use Rattle.pb.specs.Sum.{Term, _·_}
-use Rattle.record.specs.Record.{numbers, firstNumber, parsed, numbersIn, withMore, parseMany, withParsed, parseTerms, termNumbers, parseTokens, tokenNumbers, Record, firstRecord, parseRecord, parseBound, sum, derivation, clause, deletion, recordsIn, decodeLog, bytes}
+use Rattle.record.specs.Record.{numbers, parsed, numbersIn, withMore, parseMany, withParsed, parseTerms, termNumbers, parseTokens, tokenNumbers, Record, parseRecord, parseBound, sum, derivation, clause, deletion, recordsIn, decodeLog, bytes}
 
 -- ---- numbers
-
-first-number : (bs : List ℕ) (x : ℕ) (rest : List ℕ) → read bs ≡ number x rest → firstNumber bs ≡ parsed (some x) rest
-unfolding firstNumber
-first-number [] x rest e = absurd (let z : _≡_ {A = ℕ} 0 1 = cc in omega arith)
-first-number (b ∷ bs) x rest e = rw (e, firstNumber)
 
 -- Every number of a list fits.
 unfoldable pub Small : List ℕ → Type 0
 Small [] = Unit {0}
 Small (n ∷ ns) = (n < 128 ^ groups) × Small ns
 
+read-on : (bs : List ℕ) (k x : ℕ) (rest ns : List ℕ) → 0 < length bs → read bs ≡ number x rest → numbersIn k rest ≡ some ns → numbersIn (suc k) bs ≡ some (x ∷ ns)
+unfolding numbersIn withMore
+read-on [] k x rest ns l e f = absurd (omega arith)
+read-on (b ∷ bs) k x rest ns l e f = rw (e, numbersIn) (rw f)
+
 numbers-back : (ns : List ℕ) (k : ℕ) → length (flatMap encode ns) ≤ k → Small ns → numbersIn k (flatMap encode ns) ≡ some ns
-unfolding numbersIn flatMap Small withMore firstNumber
+unfolding numbersIn flatMap Small
 numbers-back [] zero h s = refl
 numbers-back [] (suc k) h s = refl
 numbers-back (n ∷ ns) zero h s = absurd (omega (arith, encode-some n, length-append (encode n) (flatMap encode ns)))
 numbers-back (n ∷ ns) (suc k) h s =
-    rw (first-number (encode n ++ flatMap encode ns) n (flatMap encode ns) (read-encode n (flatMap encode ns) (s .0)), numbersIn)
-    (rw (numbers-back ns k (omega (arith, encode-some n, length-append (encode n) (flatMap encode ns))) (s .1)))
+    let l = length-append (encode n) (flatMap encode ns) in
+    read-on (encode n ++ flatMap encode ns) k n (flatMap encode ns) ns (omega (arith, encode-some n, l)) (read-encode n (flatMap encode ns) (s .0))
+    (numbers-back ns k (omega (arith, encode-some n, l)) (s .1))
 
 -- ---- records
 
@@ -53,8 +54,8 @@ tokens-back (add ∷ ks) rest = rw (tokens-back ks rest)
 tokens-back (divide d ∷ ks) rest = rw (tokens-back ks rest)
 tokens-back (saturate ∷ ks) rest = rw (tokens-back ks rest)
 
-record-back : (r : Record) (rest : List ℕ) → firstRecord (numbers r ++ rest) ≡ parsed (some r) rest
-unfolding firstRecord parseRecord numbers parseBound withParsed
+record-back : (r : Record) (rest : List ℕ) → parseRecord (numbers r ++ rest) ≡ parsed r rest
+unfolding parseRecord numbers parseBound withParsed
 record-back (sum w ts b) rest = rw (append-assoc (termNumbers ts) (b ∷ []) rest, terms-back ts (b ∷ rest))
 record-back (derivation ks) rest = rw (tokens-back ks rest)
 record-back (clause s ls) rest = rw (many-back ls rest)
@@ -67,14 +68,21 @@ numbers-some (derivation ks) = omega arith
 numbers-some (clause s ls) = omega arith
 numbers-some (deletion ss) = omega arith
 
+parse-on : (ns : List ℕ) (k : ℕ) (r : Record) (rest : List ℕ) (rs : List Record) → 0 < length ns → parseRecord ns ≡ parsed r rest
+    → recordsIn k rest ≡ some rs → recordsIn (suc k) ns ≡ some (r ∷ rs)
+unfolding recordsIn withMore
+parse-on [] k r rest rs l e f = absurd (omega arith)
+parse-on (n ∷ ns) k r rest rs l e f = rw (e, recordsIn) (rw f)
+
 records-back : (rs : List Record) (k : ℕ) → length (flatMap numbers rs) ≤ k → recordsIn k (flatMap numbers rs) ≡ some rs
-unfolding recordsIn flatMap withMore firstRecord
+unfolding recordsIn flatMap
 records-back [] zero h = refl
 records-back [] (suc k) h = refl
 records-back (r ∷ rs) zero h = absurd (omega (arith, numbers-some r, length-append (numbers r) (flatMap numbers rs)))
 records-back (r ∷ rs) (suc k) h =
-    rw (record-back r (flatMap numbers rs), recordsIn)
-    (rw (records-back rs k (omega (arith, numbers-some r, length-append (numbers r) (flatMap numbers rs)))))
+    let l = length-append (numbers r) (flatMap numbers rs) in
+    parse-on (numbers r ++ flatMap numbers rs) k r (flatMap numbers rs) rs (omega (arith, numbers-some r, l)) (record-back r (flatMap numbers rs))
+    (records-back rs k (omega (arith, numbers-some r, l)))
 
 pub decode-bytes : (rs : List Record) → Small (flatMap numbers rs) → decodeLog (bytes rs) ≡ some rs
 unfolding decodeLog bytes

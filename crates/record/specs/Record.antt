@@ -7,7 +7,8 @@ use Rattle.number.specs.Number.{encodeIn, encode, number, bad, above, readIn, r
 use Rattle.pb.specs.Rules.{Token, step, literal, add, divide, saturate}
 use Rattle.pb.specs.Sum.{Term, _·_}
 
--- A sum with its witness (the literal made true plus 1, or 0) and its bound; a derivation; a clause with its step; a deletion of steps.
+-- A sum with its witness (of redundance-based strengthening: the literal made true plus 1, or 0) and its bound; a derivation; a clause with
+-- its step, the number of a constraint; a deletion of steps.
 pub data Record : Type 0 where
   sum : ℕ → List Term → ℕ → Record
   derivation : List Token → Record
@@ -68,17 +69,13 @@ unfoldable pub withMore : {A : Type 0} → A → Option (List A) → Option (Lis
 withMore a none = none
 withMore a (some l) = some (a ∷ l)
 
--- The first number, if there are bytes.
-unfoldable pub firstNumber : List ℕ → Parsed (Option ℕ)
-unfolding readIn above
-firstNumber [] = parsed none []
-firstNumber (b ∷ bs) = elim (read (b ∷ bs)) [ number x rest ↦ parsed (some x) rest | bad ↦ failed ]
-
 -- All the numbers of a list of bytes. The bound on the recursion is its length: every number takes a byte.
 unfoldable pub numbersIn : ℕ → List ℕ → Option (List ℕ)
-unfolding firstNumber withMore
-numbersIn zero bs = some []
-numbersIn (suc k) bs = elim (firstNumber bs) [ parsed x rest ↦ elim x [ none ↦ some [] | some n ↦ withMore n (numbersIn k rest) ] | failed ↦ none ]
+unfolding readIn above withMore
+numbersIn zero [] = some []
+numbersIn zero (b ∷ bs) = none
+numbersIn (suc k) [] = some []
+numbersIn (suc k) (b ∷ bs) = elim (read (b ∷ bs)) [ number x rest ↦ withMore x (numbersIn k rest) | bad ↦ none ]
 
 unfoldable pub parseMany : ℕ → List ℕ → Parsed (List ℕ)
 unfolding withParsed
@@ -130,17 +127,13 @@ parseRecord (suc (suc (suc (suc zero))) ∷ []) = failed
 parseRecord (suc (suc (suc (suc zero))) ∷ k ∷ ns) = withParsed deletion (parseMany k ns)
 parseRecord (suc (suc (suc (suc (suc t)))) ∷ ns) = failed
 
--- The first record, if there are numbers.
-unfoldable pub firstRecord : List ℕ → Parsed (Option Record)
-unfolding parseRecord withParsed
-firstRecord [] = parsed none []
-firstRecord (n ∷ ns) = withParsed (λ (r : Record). some r) (parseRecord (n ∷ ns))
-
 -- All the records of a list of numbers. The bound on the recursion is its length: every record takes a number.
 unfoldable pub recordsIn : ℕ → List ℕ → Option (List Record)
-unfolding firstRecord withMore
-recordsIn zero ns = some []
-recordsIn (suc k) ns = elim (firstRecord ns) [ parsed r rest ↦ elim r [ none ↦ some [] | some x ↦ withMore x (recordsIn k rest) ] | failed ↦ none ]
+unfolding parseRecord withMore
+recordsIn zero [] = some []
+recordsIn zero (n ∷ ns) = none
+recordsIn (suc k) [] = some []
+recordsIn (suc k) (n ∷ ns) = elim (parseRecord (n ∷ ns)) [ parsed r rest ↦ withMore r (recordsIn k rest) | failed ↦ none ]
 
 -- The records of a log, cut at its length.
 unfoldable pub decodeLog : List ℕ → Option (List Record)

@@ -2,7 +2,7 @@
 use mathlib.Core.Path.{_≡_, refl, sym, _∙_}
 use mathlib.Core.Bool.{Bool, true, false}
 use mathlib.Core.List.{List, [], _∷_, flatMap, append-nil, List·Memᴰ}
-use Prim.Native.Nat.{ℕ, suc, zero, _+_, _-_, _*_, min, max, _≤_, _<_}
+use Prim.Native.Nat.{ℕ, suc, zero, _+_, _-_, _*_, min, max, _≤_}
 use native.Mathlib.Omega.{arith}
 use lib.Dec.{eqb}
 use lib.ListN.{length, getD, set}

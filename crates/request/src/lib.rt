@@ -54,7 +54,7 @@ fn join_at(nodes: &[u32], node: usize) -> Join
     }
 }
 
-// The flag of a request.
+// The place of a request's flag.
 fn place(node: usize, value: usize, only_if: bool) -> usize
     requires { ⌜ (node < 319) × (1 ≤ value) × (value ≤ 64) ⌝ }
     ensures { λ r. ⌜ (r ≡ place (request node value (direction «only_if»))) × (r < 40832) ⌝ }
@@ -112,7 +112,7 @@ fn write_request(
     s
 }
 
-// A request that is not held: what it needs, the left side and then the right, and then its clauses.
+// A request, skipped where it is held: what it needs, left side and then right, then its clauses. A leaf is only marked.
 fn node_request(
     nodes: &[u32],
     leaves: &[u32],
@@ -242,7 +242,8 @@ fn side_request(
     s
 }
 
-// What a request of a join needs, and not its clauses.
+// What a request of a join needs, and not its clauses. `node_request` has this in its body, so that it and `side_request`
+// call each other directly.
 fn serve_needs(
     nodes: &[u32],
     leaves: &[u32],
@@ -423,6 +424,7 @@ fn one_by_one(nodes: &[u32], held: &[u8], node: usize, value: usize) -> bool
     number_at(nodes, 8 * node + 7) == 0
 }
 
+// A request. Of both directions what both need comes first.
 pub fn request(
     nodes: &[u32],
     leaves: &[u32],

@@ -5,8 +5,7 @@ ghost use mathlib.Core.Path.{_≡_};
 ghost use Prim.Native.Nat.{_≤_};
 ghost use lib.ListN.{length, take};
 ghost use Rattle.io.specs.Counts.{Counts};
-ghost use Rattle.lines.specs.Printed.{mostSheet};
-ghost use Rattle.lines.specs.Sheet.{sheet};
+ghost use Rattle.lines.specs.Sheet.{sheet, mostSheet};
 
 // Reads on to the end of the input, so that who writes it is not cut off. The number of turns is a
 // bound that no input reaches: 65,536 bytes each.

@@ -6,7 +6,7 @@ use lib.Dec.{eqb}
 use lib.ListN.{length, getD}
 use Rattle.totdb.specs.declared.Side.{Side}
 
--- A leaf with its literal. A join with its leaf list, its first output variable and its two sides.
+-- A leaf with its literal. A join (an inner node of the totalizer's tree) with its leaf list, its first output variable and its two sides.
 pub data Node : Type 0 where
   leaf : ℕ → Node
   join : List ℕ → ℕ → Side → Side → Node

@@ -25,33 +25,33 @@ use Rattle.window.proofs.Totals.{added-length, range-first, range-skip,
 
 -- ---- the two derivations of value v: its only-if where o is true, else its if
 
-module _ (o : Bool) (step-at : Key → ℕ → ℕ) (n : ℕ) (x : Node) (v : ℕ) where
+module _ (o : Bool) (at-step : Key → ℕ → ℕ) (n : ℕ) (x : Node) (v : ℕ) where
   abbrev summands : ℕ → List Token
-  summands = summand o step-at n x v
+  summands = summand o at-step n x v
 
   pub summand-own : (s : ℕ) → s ≡ v → summands s ≡ []
   unfolding summand
   summand-own s e = go o
     where
-      go : (o : Bool) → summand o step-at n x v s ≡ []
-      go true = only-if-own step-at n x v s (omega arith) (omega arith)
-      go false = if-own step-at n x v s (omega arith) (omega arith)
+      go : (o : Bool) → summand o at-step n x v s ≡ []
+      go true = only-if-own at-step n x v s (omega arith) (omega arith)
+      go false = if-own at-step n x v s (omega arith) (omega arith)
 
   summand-low : (s : ℕ) → s < v → length (summands s) ≡ suc (cond o 4 0)
   unfolding summand
   summand-low s h = go o
     where
-      go : (o : Bool) → length (summand o step-at n x v s) ≡ suc (cond o 4 0)
-      go true = rw (only-if-low step-at n x v s h)
-      go false = rw (if-low step-at n x v s h)
+      go : (o : Bool) → length (summand o at-step n x v s) ≡ suc (cond o 4 0)
+      go true = rw (only-if-low at-step n x v s h)
+      go false = rw (if-low at-step n x v s h)
 
   summand-high : (s : ℕ) → v < s → length (summands s) ≡ suc (cond o 0 4)
   unfolding summand
   summand-high s h = go o
     where
-      go : (o : Bool) → length (summand o step-at n x v s) ≡ suc (cond o 0 4)
-      go true = rw (only-if-high step-at n x v s h)
-      go false = rw (if-high step-at n x v s h)
+      go : (o : Bool) → length (summand o at-step n x v s) ≡ suc (cond o 0 4)
+      go true = rw (only-if-high at-step n x v s h)
+      go false = rw (if-high at-step n x v s h)
 
   pub summand-other : (s : ℕ) → (s ≡ v → ⊥) → 0 < length (summands s)
   summand-other s h = go (decLt s v) (decLt v s)
@@ -62,7 +62,7 @@ module _ (o : Bool) (step-at : Key → ℕ → ℕ) (n : ℕ) (x : Node) (v : �
       go (no l) (no k) = absurd (h (omega arith))
 
   module _ (f m : ℕ) (above : f < v) (below : v ≤ f + m) where
-    pub tokens-length : length (tokensOf o step-at n x f m v) ≡ (v - (f + 1)) * (cond o 4 0 + 2) + (f + m - v) * (cond o 0 4 + 2) - 1
+    pub tokens-length : length (tokensOf o at-step n x f m v) ≡ (v - (f + 1)) * (cond o 4 0 + 2) + (f + m - v) * (cond o 0 4 + 2) - 1
     unfolding tokensOf flatMap addSequence
     tokens-length =
         let low = added-length summands (cond o 4 0) (range (f + 1) (v - (f + 1)))
@@ -81,12 +81,12 @@ module _ (o : Bool) (step-at : Key → ℕ → ℕ) (n : ℕ) (x : Node) (v : �
           length-range (v + 1) (f + m - v),
         )
 
-    tokens-first : 1 < m → tokensOf o step-at n x f m v
+    tokens-first : 1 < m → tokensOf o at-step n x f m v
         ≡ summands (firstOther f v) ++ flatMap (added summands) (range (firstOther f v + 1) (f + m - firstOther f v))
     unfolding tokensOf firstOther
     tokens-first more = go (eqb v (f + 1)) refl
       where
-        go : (t : Bool) → eqb v (f + 1) ≡ t → tokensOf o step-at n x f m v
+        go : (t : Bool) → eqb v (f + 1) ≡ t → tokensOf o at-step n x f m v
             ≡ summands (cond t (f + 2) (f + 1)) ++ flatMap (added summands) (range (cond t (f + 2) (f + 1) + 1) (f + m - cond t (f + 2) (f + 1)))
         go true e =
             let q = eqb-true v (f + 1) e in
@@ -102,8 +102,8 @@ module _ (o : Bool) (step-at : Key → ℕ → ℕ) (n : ℕ) (x : Node) (v : �
 
     -- What `put_derivation` writes, k the value of the first summand.
     pub derivation-is : 1 < m → (k : ℕ) → k ≡ firstOther f v
-        → 2 ∷ length (tokensOf o step-at n x f m v) ∷ (tokenNumbers (summands k) ++ tokenNumbers (flatMap (added summands) (range (k + 1) (f + m - k))))
-        ≡ numbers (derivation (tokensOf o step-at n x f m v))
+        → 2 ∷ length (tokensOf o at-step n x f m v) ∷ (tokenNumbers (summands k) ++ tokenNumbers (flatMap (added summands) (range (k + 1) (f + m - k))))
+        ≡ numbers (derivation (tokensOf o at-step n x f m v))
     unfolding numbers
     derivation-is more k e = rw (e, tokens-first more, tokens-append)
 
@@ -122,15 +122,15 @@ read-range g l f (suc m) h k =
     rw (drop-cons l f 0 (omega arith), more, first, z)
 
 -- What `put_window` writes.
-pub window-is : (firsts outs : List ℕ) (step-at : Key → ℕ → ℕ) (t : List Node) (n f m : ℕ) → f + m ≤ length outs
-    → Handed firsts outs step-at n (at t n) f m
-    → flatMap numbers (flatMap (windowPair step-at n (at t n) f m) (range (f + 1) m))
+pub window-is : (firsts outs : List ℕ) (at-step : Key → ℕ → ℕ) (t : List Node) (n f m : ℕ) → f + m ≤ length outs
+    → Handed firsts outs at-step n (at t n) f m
+    → flatMap numbers (flatMap (windowPair at-step n (at t n) f m) (range (f + 1) m))
     ++ numbers (sum 0 (units (signed true (take m (drop f outs))) ++ keep 0 0 []) 0)
-    ≡ flatMap numbers (keyRecords step-at t (window n f m))
+    ≡ flatMap numbers (keyRecords at-step t (window n f m))
 unfolding flatMap keyRecords atLeastZero outputs signed keep
-window-is firsts outs step-at t n f m h handed =
+window-is firsts outs at-step t n f m h handed =
     rw (
-      flatMap-append numbers (flatMap (windowPair step-at n (at t n) f m) (range (f + 1) m)),
+      flatMap-append numbers (flatMap (windowPair at-step n (at t n) f m) (range (f + 1) m)),
       append-nil,
       append-nil,
       read-range (output (at t n)) outs f m h (handed .literal),

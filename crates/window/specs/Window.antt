@@ -13,9 +13,9 @@ use Rattle.derivation.specs.Operands.{nextStep}
 
 -- For a window of node x of number n, offset f, m outputs: `firsts` has the first step of the real definition of value s at 68 * n + s,
 -- `outputs` the output of value s at s - 1.
-pub record Handed (firsts outputs : List ℕ) (step-at : Key → ℕ → ℕ) (n : ℕ) (x : Node) (f m : ℕ) : Type 0 where
-  pub if-step : (s : ℕ) → f < s → s ≤ f + m → step-at (real n s) 0 ≡ getD firsts (68 * n + s) 0
-  pub only-if-step : (s : ℕ) → f < s → s ≤ f + m → step-at (real n s) 1 ≡ nextStep (getD firsts (68 * n + s) 0)
+pub record Handed (firsts outputs : List ℕ) (at-step : Key → ℕ → ℕ) (n : ℕ) (x : Node) (f m : ℕ) : Type 0 where
+  pub if-step : (s : ℕ) → f < s → s ≤ f + m → at-step (real n s) 0 ≡ getD firsts (68 * n + s) 0
+  pub only-if-step : (s : ℕ) → f < s → s ≤ f + m → at-step (real n s) 1 ≡ nextStep (getD firsts (68 * n + s) 0)
   pub literal : (s : ℕ) → f < s → s ≤ f + m → output x s ≡ getD outputs (s - 1) 0
 
 -- A window inside the tables: 319 nodes, 68 values to a node, the outputs of its node. It has two outputs or more.
@@ -43,13 +43,13 @@ pub record Reads (firsts outputs : List ℕ) (node v s : ℕ) : Type 0 where
 -- The summand at s of the only-if of v, or of its if.
 unfoldable pub summand : Bool → (Key → ℕ → ℕ) → ℕ → Node → ℕ → ℕ → List Token
 unfolding ifPart onlyIfPart
-summand true step-at n x v s = onlyIfPart step-at n x v s
-summand false step-at n x v s = ifPart step-at n x v s
+summand true at-step n x v s = onlyIfPart at-step n x v s
+summand false at-step n x v s = ifPart at-step n x v s
 
 -- The tokens of the only-if of v in a window, or of its if.
 unfoldable pub tokensOf : Bool → (Key → ℕ → ℕ) → ℕ → Node → ℕ → ℕ → ℕ → List Token
 unfolding summand total range
-tokensOf only-if step-at n x f m v = total [] (map (summand only-if step-at n x v) (range (f + 1) m))
+tokensOf only-if at-step n x f m v = total [] (map (summand only-if at-step n x v) (range (f + 1) m))
 
 -- A sequence with its addition to what stands before.
 abbrev pub added : {A : Type 0} → (A → List Token) → A → List Token
@@ -61,4 +61,4 @@ firstOther f v = cond (eqb v (f + 1)) (f + 2) (f + 1)
 
 -- The if and the only-if of v in a window.
 abbrev pub windowPair : (Key → ℕ → ℕ) → ℕ → Node → ℕ → ℕ → ℕ → List Record
-windowPair step-at n x f m v = windowIf step-at n x f m v ∷ windowOnlyIf step-at n x f m v ∷ []
+windowPair at-step n x f m v = windowIf at-step n x f m v ∷ windowOnlyIf at-step n x f m v ∷ []

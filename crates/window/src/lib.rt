@@ -25,7 +25,7 @@ fn first_other(offset: usize, value: usize) -> usize
 // How many tokens a derivation of `value` has: a literal or five for each other value, and the additions between them.
 fn count_tokens(offset: usize, len: usize, value: usize, only_if: bool) -> u32
     requires { ⌜ (offset + len ≤ 64) × (1 < len) × Within offset len value ⌝ }
-    ensures { λ r. ⌜ ((step-at : Key → ℕ → ℕ) (n : ℕ) (x : Node) → r ≡ length (tokensOf «only_if» step-at n x offset len value)) ⌝ }
+    ensures { λ r. ⌜ ((at-step : Key → ℕ → ℕ) (n : ℕ) (x : Node) → r ≡ length (tokensOf «only_if» at-step n x offset len value)) ⌝ }
 {
     let below = value - offset - 1;
     let above = offset + len - value;
@@ -47,9 +47,9 @@ fn put_summand(
     only_if: bool,
 ) -> Cursor
     requires { ⌜ Reads (now firsts) (now outputs) node value s ⌝ }
-    ensures { λ r. ⌜ ((step-at : Key → ℕ → ℕ) (x : Node) (f m : ℕ)
-        → Handed (now (firsts .entry)) (now (outputs .entry)) step-at node x f m → Within f m value → Within f m s
-        → Puts (buffer (now (log .entry)) c) (tokenNumbers (summand «only_if» step-at node x value s)) (buffer (now (log .exit)) r)) ⌝ }
+    ensures { λ r. ⌜ ((at-step : Key → ℕ → ℕ) (x : Node) (f m : ℕ)
+        → Handed (now (firsts .entry)) (now (outputs .entry)) at-step node x f m → Within f m value → Within f m s
+        → Puts (buffer (now (log .entry)) c) (tokenNumbers (summand «only_if» at-step node x value s)) (buffer (now (log .exit)) r)) ⌝ }
 {
     let own = firsts[68 * node + value];
     let other = firsts[68 * node + s];
@@ -74,9 +74,9 @@ fn put_added(
     only_if: bool,
 ) -> Cursor
     requires { ⌜ Reads (now firsts) (now outputs) node value s ⌝ }
-    ensures { λ r. ⌜ ((step-at : Key → ℕ → ℕ) (x : Node) (f m : ℕ)
-        → Handed (now (firsts .entry)) (now (outputs .entry)) step-at node x f m → Within f m value → Within f m s
-        → Puts (buffer (now (log .entry)) c) (tokenNumbers (added (summand «only_if» step-at node x value) s)) (buffer (now (log .exit)) r)) ⌝ }
+    ensures { λ r. ⌜ ((at-step : Key → ℕ → ℕ) (x : Node) (f m : ℕ)
+        → Handed (now (firsts .entry)) (now (outputs .entry)) at-step node x f m → Within f m value → Within f m s
+        → Puts (buffer (now (log .entry)) c) (tokenNumbers (added (summand «only_if» at-step node x value) s)) (buffer (now (log .exit)) r)) ⌝ }
 {
     let d = put_summand(log, c, firsts, outputs, node, value, s, only_if);
     if s == value {
@@ -99,10 +99,10 @@ fn put_rest(
     only_if: bool,
 ) -> Cursor
     requires { ⌜ Bounds (now firsts) (now outputs) node offset len × Within offset len value × Within offset len first ⌝ }
-    ensures { λ r. ⌜ ((step-at : Key → ℕ → ℕ) (x : Node)
-        → Handed (now (firsts .entry)) (now (outputs .entry)) step-at node x offset len
+    ensures { λ r. ⌜ ((at-step : Key → ℕ → ℕ) (x : Node)
+        → Handed (now (firsts .entry)) (now (outputs .entry)) at-step node x offset len
         → Puts (buffer (now (log .entry)) c)
-        (tokenNumbers (flatMap (added (summand «only_if» step-at node x value)) (range (first + 1) (offset + len - first))))
+        (tokenNumbers (flatMap (added (summand «only_if» at-step node x value)) (range (first + 1) (offset + len - first))))
         (buffer (now (log .exit)) r)) ⌝ }
 {
     let mut d = c;
@@ -125,9 +125,9 @@ fn put_derivation(
     only_if: bool,
 ) -> Cursor
     requires { ⌜ Bounds (now firsts) (now outputs) node offset len × Within offset len value ⌝ }
-    ensures { λ r. ⌜ ((step-at : Key → ℕ → ℕ) (x : Node)
-        → Handed (now (firsts .entry)) (now (outputs .entry)) step-at node x offset len
-        → Puts (buffer (now (log .entry)) c) (numbers (derivation (tokensOf «only_if» step-at node x offset len value))) (buffer (now (log .exit)) r)) ⌝ }
+    ensures { λ r. ⌜ ((at-step : Key → ℕ → ℕ) (x : Node)
+        → Handed (now (firsts .entry)) (now (outputs .entry)) at-step node x offset len
+        → Puts (buffer (now (log .entry)) c) (numbers (derivation (tokensOf «only_if» at-step node x offset len value))) (buffer (now (log .exit)) r)) ⌝ }
 {
     let first = first_other(offset, value);
     let after_kind = record::put(log, c, 2);
@@ -157,7 +157,7 @@ fn put_derivation(
 }
 
 // The if of a window's value.
-pub fn put_window_if(
+fn put_window_if(
     log: &mut [u8],
     c: Cursor,
     firsts: &[u32],
@@ -168,15 +168,15 @@ pub fn put_window_if(
     value: usize,
 ) -> Cursor
     requires { ⌜ Bounds (now firsts) (now outputs) node offset len × Within offset len value ⌝ }
-    ensures { λ r. ⌜ ((step-at : Key → ℕ → ℕ) (x : Node)
-        → Handed (now (firsts .entry)) (now (outputs .entry)) step-at node x offset len
-        → Puts (buffer (now (log .entry)) c) (numbers (windowIf step-at node x offset len value)) (buffer (now (log .exit)) r)) ⌝ }
+    ensures { λ r. ⌜ ((at-step : Key → ℕ → ℕ) (x : Node)
+        → Handed (now (firsts .entry)) (now (outputs .entry)) at-step node x offset len
+        → Puts (buffer (now (log .entry)) c) (numbers (windowIf at-step node x offset len value)) (buffer (now (log .exit)) r)) ⌝ }
 {
     put_derivation(log, c, firsts, outputs, node, offset, len, value, false)
 }
 
 // The only-if of a window's value.
-pub fn put_window_only_if(
+fn put_window_only_if(
     log: &mut [u8],
     c: Cursor,
     firsts: &[u32],
@@ -187,9 +187,9 @@ pub fn put_window_only_if(
     value: usize,
 ) -> Cursor
     requires { ⌜ Bounds (now firsts) (now outputs) node offset len × Within offset len value ⌝ }
-    ensures { λ r. ⌜ ((step-at : Key → ℕ → ℕ) (x : Node)
-        → Handed (now (firsts .entry)) (now (outputs .entry)) step-at node x offset len
-        → Puts (buffer (now (log .entry)) c) (numbers (windowOnlyIf step-at node x offset len value)) (buffer (now (log .exit)) r)) ⌝ }
+    ensures { λ r. ⌜ ((at-step : Key → ℕ → ℕ) (x : Node)
+        → Handed (now (firsts .entry)) (now (outputs .entry)) at-step node x offset len
+        → Puts (buffer (now (log .entry)) c) (numbers (windowOnlyIf at-step node x offset len value)) (buffer (now (log .exit)) r)) ⌝ }
 {
     put_derivation(log, c, firsts, outputs, node, offset, len, value, true)
 }
@@ -205,10 +205,10 @@ fn put_values(
     len: usize,
 ) -> Cursor
     requires { ⌜ Bounds (now firsts) (now outputs) node offset len ⌝ }
-    ensures { λ r. ⌜ ((step-at : Key → ℕ → ℕ) (x : Node)
-        → Handed (now (firsts .entry)) (now (outputs .entry)) step-at node x offset len
+    ensures { λ r. ⌜ ((at-step : Key → ℕ → ℕ) (x : Node)
+        → Handed (now (firsts .entry)) (now (outputs .entry)) at-step node x offset len
         → Puts (buffer (now (log .entry)) c)
-        (flatMap numbers (flatMap (windowPair step-at node x offset len) (range (offset + 1) len)))
+        (flatMap numbers (flatMap (windowPair at-step node x offset len) (range (offset + 1) len)))
         (buffer (now (log .exit)) r)) ⌝ }
 {
     let mut d = c;
@@ -230,9 +230,9 @@ pub fn put_window(
     len: usize,
 ) -> Cursor
     requires { ⌜ Bounds (now firsts) (now outputs) node offset len ⌝ }
-    ensures { λ r. ⌜ ((step-at : Key → ℕ → ℕ) (t : List Node)
-        → Handed (now (firsts .entry)) (now (outputs .entry)) step-at node (at t node) offset len
-        → Puts (buffer (now (log .entry)) c) (flatMap numbers (keyRecords step-at t (window node offset len))) (buffer (now (log .exit)) r)) ⌝ }
+    ensures { λ r. ⌜ ((at-step : Key → ℕ → ℕ) (t : List Node)
+        → Handed (now (firsts .entry)) (now (outputs .entry)) at-step node (at t node) offset len
+        → Puts (buffer (now (log .entry)) c) (flatMap numbers (keyRecords at-step t (window node offset len))) (buffer (now (log .exit)) r)) ⌝ }
 {
     let d = put_values(log, c, firsts, outputs, node, offset, len);
     let end = offset + len;

@@ -18,11 +18,11 @@ same-length c = search needs
 
 returns : tie.Need-returns
 unfolding tokenNumbers tokens
-returns c = λ step-at n x p q e.
+returns c = λ at-step n x p q e.
     let wrote = c .before .before in
     let test = wrote .before .before .before in
     let a = test .before .before .args in
-    rw (if-low step-at n x (a .v) (a .s) (test .if1 .taken), e) (rw (wrote .before .neg .ensures) at (wrote .put-definition .ensures))
+    rw (if-low at-step n x (a .v) (a .s) (test .if1 .taken), e) (rw (wrote .before .neg .ensures) at (wrote .put-definition .ensures))
 
 add-put-divided : tie.Need-add-put-divided
 add-put-divided c = search needs
@@ -34,17 +34,17 @@ same-length-2 : tie.Need-same-length-2
 same-length-2 c = search needs
 
 returns-2 : tie.Need-returns-2
-returns-2 c = λ step-at n x p q e.
+returns-2 c = λ at-step n x p q e.
     let wrote = c .before .before in
     let test = wrote .before .before in
     let a = test .before .before .before .args in
-    rw (if-high step-at n x (a .v) (a .s) (test .if2 .taken), p, q) (wrote .put-divided .ensures)
+    rw (if-high at-step n x (a .v) (a .s) (test .if2 .taken), p, q) (wrote .put-divided .ensures)
 
 returns-3 : tie.Need-returns-3
 unfolding tokenNumbers
-returns-3 c = λ step-at n x p q e.
+returns-3 c = λ at-step n x p q e.
     let a = c .before .before .before .args in
-    rw (if-own step-at n x (a .v) (a .s) (c .before .if1 .left) (c .if2 .left)) nothing
+    rw (if-own at-step n x (a .v) (a .s) (c .before .if1 .left) (c .if2 .left)) nothing
 
 pub put-if-part-spec : {M : Type 1} → statement M
 put-if-part-spec =

@@ -20,11 +20,11 @@ same-length : tie.Need-same-length
 same-length c = search needs
 
 returns : tie.Need-returns
-returns c = λ step-at n x p q e.
+returns c = λ at-step n x p q e.
     let wrote = c .before .before in
     let test = wrote .before .before in
     let a = test .before .before .args in
-    rw (only-if-low step-at n x (a .v) (a .s) (test .if1 .taken), p, q) (wrote .put-divided .ensures)
+    rw (only-if-low at-step n x (a .v) (a .s) (test .if1 .taken), p, q) (wrote .put-divided .ensures)
 
 put-definition-requires : tie.Need-put-definition-requires
 put-definition-requires c κs = search needs
@@ -34,17 +34,17 @@ same-length-2 c = search needs
 
 returns-2 : tie.Need-returns-2
 unfolding tokenNumbers tokens
-returns-2 c = λ step-at n x p q e.
+returns-2 c = λ at-step n x p q e.
     let wrote = c .before .before in
     let test = wrote .before .before in
     let a = test .before .before .before .args in
-    rw (only-if-high step-at n x (a .v) (a .s) (test .if2 .taken), e) (wrote .put-definition .ensures)
+    rw (only-if-high at-step n x (a .v) (a .s) (test .if2 .taken), e) (wrote .put-definition .ensures)
 
 returns-3 : tie.Need-returns-3
 unfolding tokenNumbers
-returns-3 c = λ step-at n x p q e.
+returns-3 c = λ at-step n x p q e.
     let a = c .before .before .before .args in
-    rw (only-if-own step-at n x (a .v) (a .s) (c .before .if1 .left) (c .if2 .left)) nothing
+    rw (only-if-own at-step n x (a .v) (a .s) (c .before .if1 .left) (c .if2 .left)) nothing
 
 pub put-only-if-part-spec : {M : Type 1} → statement M
 put-only-if-part-spec =

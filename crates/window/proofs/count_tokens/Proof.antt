@@ -33,10 +33,10 @@ cast-result : tie.Need-cast-result
 cast-result c = search needs
 
 returns : tie.Need-returns
-returns c = λ step-at n x.
+returns c = λ at-step n x.
     let a = c .before .args in
     let within = c .before .pre .2 in
-    rw (tokens-length (a .only-if) step-at n x (a .value) (a .offset) (a .len) (within .above) (within .below), c .if1 .taken) (omega arith)
+    rw (tokens-length (a .only-if) at-step n x (a .value) (a .offset) (a .len) (within .above) (within .below), c .if1 .taken) (omega arith)
 
 mul-result-2 : tie.Need-mul-result-2
 mul-result-2 c = search needs
@@ -54,10 +54,10 @@ cast-result-2 : tie.Need-cast-result-2
 cast-result-2 c = search needs
 
 returns-2 : tie.Need-returns-2
-returns-2 c = λ step-at n x.
+returns-2 c = λ at-step n x.
     let a = c .before .args in
     let within = c .before .pre .2 in
-    rw (tokens-length (a .only-if) step-at n x (a .value) (a .offset) (a .len) (within .above) (within .below), c .if1 .left) (omega arith)
+    rw (tokens-length (a .only-if) at-step n x (a .value) (a .offset) (a .len) (within .above) (within .below), c .if1 .left) (omega arith)
 
 pub count-tokens-spec : {M : Type 1} → statement M
 count-tokens-spec =

@@ -15,11 +15,11 @@ same-length c = search needs
 
 returns : tie.Need-returns
 unfolding addSequence
-returns c = λ step-at x f m handed own other.
+returns c = λ at-step x f m handed own other.
     let wrote = c .before .before .before in
     let a = wrote .before .before .before .before .before .args in
-    let none = summand-own (a .only-if) step-at (a .node) x (a .value) (a .s) (c .if1 .taken) in
-    rw none (rw none at (wrote .put-summand .ensures step-at x f m handed own other))
+    let none = summand-own (a .only-if) at-step (a .node) x (a .value) (a .s) (c .if1 .taken) in
+    rw none (rw none at (wrote .put-summand .ensures at-step x f m handed own other))
 
 put-requires : tie.Need-put-requires
 put-requires c κs = search needs
@@ -28,13 +28,13 @@ same-length-2 : tie.Need-same-length-2
 same-length-2 c = search needs
 
 returns-2 : tie.Need-returns-2
-returns-2 c = λ step-at x f m handed own other.
+returns-2 c = λ at-step x f m handed own other.
     let addition = c .before .before in
     let test = addition .before .before in
     let wrote = test .before .before .before in
     let a = wrote .before .before .before .before .before .args in
-    rw (added-some _ (summand-other (a .only-if) step-at (a .node) x (a .value) (a .s) (test .if1 .left)))
-    (after (wrote .put-summand .ensures step-at x f m handed own other) (addition .put .ensures))
+    rw (added-some _ (summand-other (a .only-if) at-step (a .node) x (a .value) (a .s) (test .if1 .left)))
+    (after (wrote .put-summand .ensures at-step x f m handed own other) (addition .put .ensures))
 
 pub put-added-spec : {M : Type 1} → statement M
 put-added-spec =

@@ -35,7 +35,7 @@ same-length : tie.Need-same-length
 same-length c = search needs
 
 returns : tie.Need-returns
-returns c = λ step-at x handed.
+returns c = λ at-step x handed.
     let rest = c .before .before in
     let summand = rest .before .before .before .before in
     let count = summand .before .before .before .before in
@@ -49,10 +49,10 @@ returns c = λ step-at x handed.
     let high = first .ensures .2 in
     let several = bounds .several in
     let within : Within (a .offset) (a .len) (first .result) = record { above = low; below = omega arith } in
-    rw (← derivation-is (a .only-if) step-at (a .node) x (a .value) (a .offset) (a .len) (value .above) (value .below) several (first .result) (first .ensures .0))
+    rw (← derivation-is (a .only-if) at-step (a .node) x (a .value) (a .offset) (a .len) (value .above) (value .below) several (first .result) (first .ensures .0))
     (after (kind .put .ensures)
-    (after (rw (count .before .count-tokens .ensures step-at (a .node) x) at (count .put2 .ensures))
-    (after (summand .put-summand .ensures step-at x (a .offset) (a .len) handed value within) (rest .put-rest .ensures step-at x handed))))
+    (after (rw (count .before .count-tokens .ensures at-step (a .node) x) at (count .put2 .ensures))
+    (after (summand .put-summand .ensures at-step x (a .offset) (a .len) handed value within) (rest .put-rest .ensures at-step x handed))))
 
 pub put-derivation-spec : {M : Type 1} → statement M
 put-derivation-spec =

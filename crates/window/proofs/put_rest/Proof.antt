@@ -19,8 +19,8 @@ use Rattle.window.proofs.put_rest.Tie as tie
 abbrev Inv-loop : tie.InvT-loop
 Inv-loop log₀ firsts outputs node offset len value first only-if d₀ s₀ s-end log d s =
     (first + 1 ≤ s) × (s ≤ s-end) × (length log ≡ length log₀)
-    × ((step-at : Key → ℕ → ℕ) (x : Node) → Handed firsts outputs step-at node x offset len
-    → Puts (buffer log₀ d₀) (tokenNumbers (flatMap (added (summand only-if step-at node x value)) (range (first + 1) (s - (first + 1))))) (buffer log d))
+    × ((at-step : Key → ℕ → ℕ) (x : Node) → Handed firsts outputs at-step node x offset len
+    → Puts (buffer log₀ d₀) (tokenNumbers (flatMap (added (summand only-if at-step node x value)) (range (first + 1) (s - (first + 1))))) (buffer log d))
 
 abbrev μ-loop : tie.MeasureT-loop
 μ-loop log₀ firsts outputs node offset len value first only-if d₀ s₀ s-end log d s = s-end - s
@@ -39,7 +39,7 @@ unfolding flatMap range tokenNumbers
 loop-holds c =
     let a = c .before .before .before .args in
     let none : a .first + 1 - (a .first + 1) ≡ 0 = omega arith in
-    (search needs, search needs, refl, λ step-at x handed. rw none nothing)
+    (search needs, search needs, refl, λ at-step x handed. rw none nothing)
 
 put-added-requires : tie.Need-put-added-requires Inv-loop μ-loop
 put-added-requires c κs = search needs
@@ -60,20 +60,20 @@ loop-again c =
       search needs,
       search needs,
       search needs,
-      λ step-at x handed.
-          rw (range-more (added (summand (a .only-if) step-at (a .node) x (a .value))) (a .first + 1) (loop .s) from, tokens-append)
-          (after (loop .inv .3 step-at x handed) (wrote .put-added .ensures step-at x (a .offset) (a .len) handed value (search needs))),
+      λ at-step x handed.
+          rw (range-more (added (summand (a .only-if) at-step (a .node) x (a .value))) (a .first + 1) (loop .s) from, tokens-append)
+          (after (loop .inv .3 at-step x handed) (wrote .put-added .ensures at-step x (a .offset) (a .len) handed value (search needs))),
     )
 
 same-length : tie.Need-same-length Inv-loop μ-loop
 same-length c = search needs
 
 returns : tie.Need-returns Inv-loop μ-loop
-returns c = λ step-at x handed.
+returns c = λ at-step x handed.
     let loop = c .before .loop in
     let a = c .before .before .before .before .before .args in
     let all : loop .s - (a .first + 1) ≡ a .offset + a .len - a .first = omega arith in
-    rw all at (loop .inv .3 step-at x handed)
+    rw all at (loop .inv .3 at-step x handed)
 
 pub put-rest-spec : {M : Type 1} → statement M
 put-rest-spec =

@@ -55,13 +55,13 @@ same-length c = search needs
 
 returns : tie.Need-returns
 unfolding summand
-returns c = λ step-at x f m handed own other.
+returns c = λ at-step x f m handed own other.
     let wrote = c .before .before in
     let next = wrote .before .before in
     let test = next .before in
     let a = test .before .before .before .before .before .before .before .args in
     rw (test .if1 .taken)
-    (wrote .put-only-if-part .ensures step-at (a .node) x
+    (wrote .put-only-if-part .ensures at-step (a .node) x
     (handed .only-if-step (a .value) (own .above) (own .below) ∙ sym (next .next-step .ensures))
     (handed .if-step (a .s) (other .above) (other .below))
     (handed .literal (a .s) (other .above) (other .below)))
@@ -83,13 +83,13 @@ same-length-2 c = search needs
 
 returns-2 : tie.Need-returns-2
 unfolding summand
-returns-2 c = λ step-at x f m handed own other.
+returns-2 c = λ at-step x f m handed own other.
     let wrote = c .before .before in
     let next = wrote .before .before in
     let test = next .before in
     let a = test .before .before .before .before .before .before .before .args in
     rw (test .if1 .left)
-    (wrote .put-if-part .ensures step-at (a .node) x
+    (wrote .put-if-part .ensures at-step (a .node) x
     (handed .if-step (a .value) (own .above) (own .below))
     (handed .only-if-step (a .s) (other .above) (other .below) ∙ sym (next .next-step2 .ensures))
     (handed .literal (a .s) (other .above) (other .below)))
