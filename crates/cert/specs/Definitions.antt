@@ -68,12 +68,16 @@ unfoldable pub sideDef : List Node → Side → ℕ → Direction → Definition
 unfolding sideLen sideLit oneDef longDef decLe
 sideDef t s i d = dite (decLe (sideLen t s) 1) (λ _. oneDef (sideLit t s 1) i d) (λ _. longDef (sideLen t s) (s .node) (s .offset) (s .limit) i d)
 
--- A window is written after its sum of value 0 and the real definitions of its outputs, ascending, those that are missing.
+-- The real definitions of the outputs of a window, ascending.
+abbrev pub windowReals : ℕ → ℕ → ℕ → List Key
+windowReals n f m = map {B = Key} (λ (i : ℕ). real n (f + i)) (range 1 m)
+
+-- A window is written after its sum of value 0 and the real definitions of its outputs, those that are missing.
 unfoldable pub pulls : Key → List Key
 unfolding range
 pulls (real n v) = []
 pulls (window-zero n f m) = []
-pulls (window n f m) = window-zero n f m ∷ map (λ (i : ℕ). real n (f + i)) (range 1 m)
+pulls (window n f m) = window-zero n f m ∷ windowReals n f m
 
 -- ---- real definitions: node x of length n, value v, leaf literals l
 
@@ -134,6 +138,9 @@ unfoldable pub windowOnlyIf : (Key → ℕ → ℕ) → ℕ → Node → ℕ →
 unfolding total onlyIfPart range
 windowOnlyIf at-step n x f m v = derivation (total [] (map (onlyIfPart at-step n x v) (range (f + 1) m)))
 
+abbrev pub windowPair : (Key → ℕ → ℕ) → ℕ → Node → ℕ → ℕ → ℕ → List Record
+windowPair at-step n x f m v = windowIf at-step n x f m v ∷ windowOnlyIf at-step n x f m v ∷ []
+
 -- ---- the records of a key
 
 unfoldable pub keyRecords : (Key → ℕ → ℕ) → List Node → Key → List Record
@@ -141,7 +148,7 @@ unfolding at realRecords atLeastZero outputs windowIf windowOnlyIf flatMap neg
 keyRecords at-step t (real n v) = realRecords (at t n) v
 keyRecords at-step t (window-zero n f m) = atLeastZero (outputs (at t n) f m) ∷ []
 keyRecords at-step t (window n f m) =
-    flatMap {B = Record} (λ (v : ℕ). windowIf at-step n (at t n) f m v ∷ windowOnlyIf at-step n (at t n) f m v ∷ []) (range (f + 1) m)
+    flatMap {B = Record} (windowPair at-step n (at t n) f m) (range (f + 1) m)
     ++ (atLeastZero (map neg (outputs (at t n) f m)) ∷ [])
 
 -- ---- the sums that a key defines: what its records come to

@@ -12,14 +12,14 @@ use Rattle.memo.proofs.Unrolled.{each-append}
 use Rattle.record.specs.Record.{Record, numbers, steps, sum}
 use Rattle.record.specs.Writing.{Buffer, Puts, signed}
 use Rattle.totdb.specs.Nodes.{Node, at, leaves, len, output, outputs, range}
-use Rattle.cert.specs.Definitions.{Key, real, realRecords, window-zero, window, keyRecords, atLeastZero, windowIf, windowOnlyIf}
+use Rattle.cert.specs.Definitions.{Key, real, realRecords, window-zero, window, keyRecords, atLeastZero, windowIf, windowOnlyIf, windowReals}
 use Rattle.cert.specs.State.{State, fromIn, stepIn, lookUp}
 use Rattle.cert.proofs.Apart.{length-range}
 use Rattle.cert.proofs.Counts.{steps-append}
 use Rattle.cert.proofs.WindowDerivations.{range-append}
 use Rattle.window.specs.Window.{Handed}
 use Rattle.define.specs.Tables.{Lists, Used, slot, Memory, Exact, Shown, Does, RealOf, WindowOf, WindowIn}
-use Rattle.define.specs.Stores.{outputIn, Inside, windowReals}
+use Rattle.define.specs.Stores.{outputIn, Inside}
 use Rattle.define.proofs.Defines.{few-steps}
 use Rattle.define.proofs.Does.{does-none, does-then, does-under, does-same, shown-to}
 use Rattle.define.proofs.Reals.{at-least-zero}
@@ -127,7 +127,7 @@ window-count n f m t g =
 
 reals-snoc : (n f i : ℕ) (t : List Node) (s : State)
     → each (lookUp t) (windowReals n f (i + 1)) s ≡ lookUp t (real n (f + i + 1)) (each (lookUp t) (windowReals n f i) s)
-unfolding windowReals each range
+unfolding each range
 reals-snoc n f i t s =
     let e : f + (1 + i) ≡ f + i + 1 = omega arith in
     let g : ℕ → Key = λ j. real n (f + j) in
@@ -151,5 +151,5 @@ module _ {ls os : List ℕ} {n k f m i : ℕ} (h : i < m) where
   reals-more x y = does-same (λ t s l w. sym (reals-snoc n f i t s)) (does-then x (does-under real-in y))
 
 pub reals-none : {ls os : List ℕ} {P : List Node → Type 0} (n f : ℕ) {p : Memory} → Does ls os P (λ t s. each (lookUp t) (windowReals n f 0) s) p p
-unfolding windowReals each range
+unfolding each range
 reals-none n f = does-none

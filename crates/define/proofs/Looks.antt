@@ -14,14 +14,14 @@ use Rattle.record.specs.Record.{numbers, steps}
 use Rattle.record.specs.Writing.{buffer, Puts}
 use Rattle.record.specs.declared.Cursor.{Cursor}
 use Rattle.totdb.specs.Nodes.{Node}
-use Rattle.cert.specs.Definitions.{Key, window-zero, window, pulls, keyRecords}
+use Rattle.cert.specs.Definitions.{Key, window-zero, window, pulls, keyRecords, windowReals}
 use Rattle.cert.specs.Equal.{key-dec, keyRank}
 use Rattle.cert.specs.State.{State, keys, stepIn, define, lookUp}
 use Rattle.cert.proofs.Fits.{KeyFits, key-falls}
 use Rattle.cert.proofs.Serving.{define-keys}
 use Rattle.define.specs.declared.Out.{Out}
 use Rattle.define.specs.Tables.{Lists, Used, WindowOf, slot, Memory, memory, Exact, Over, StandsFor, exact, over, Does}
-use Rattle.define.specs.Stores.{kept, storeSteps, moved, New, DoesFrom, windowReals}
+use Rattle.define.specs.Stores.{kept, storeSteps, moved, New, DoesFrom}
 use Rattle.define.proofs.Defines.{defined}
 use Rattle.define.proofs.Does.{grown, Grows, does-full, does-open}
 use Rattle.define.proofs.Entries.{from-missing}
@@ -139,7 +139,7 @@ window-does n f m h z shown first second third = does-open h
     let u = window-named l w in
     let i = not-there x (window n f m) (u .used) z in
     let same : each (lookUp t) (pulls (window n f m)) s ≡ each (lookUp t) (windowReals n f m) (lookUp t (window-zero n f m) s) =
-    (unfold each pulls windowReals in refl) in
+    (unfold each pulls in refl) in
     rw (look-up-new t (window n f m) (u .fits) s i, same)
     (third .does c t _ l (w, subst (New (window n f m)) same (still-new t (window n f m) (u .fits) s i))
     (second .does c t _ l q (first .does c t s l w (exact h x)))))

@@ -1,13 +1,13 @@
 -- What the private functions do: the output of a value, the steps that are stored, the records of a key that is not stored.
 use mathlib.Core.Bool.{cond, _||_}
-use mathlib.Core.List.{List, map, List·Memᴰ}
+use mathlib.Core.List.{List, List·Memᴰ}
 use mathlib.Core.Path.{_≡_}
 use Prim.Native.Nat.{ℕ, zero, suc, _+_, _-_, _*_, _≤_, _<_}
 use lib.Dec.{eqb, ltb}
 use lib.ListN.{length, getD, set}
 use Rattle.record.specs.declared.Cursor.{Cursor}
-use Rattle.totdb.specs.Nodes.{Node, range}
-use Rattle.cert.specs.Definitions.{Key, real}
+use Rattle.totdb.specs.Nodes.{Node}
+use Rattle.cert.specs.Definitions.{Key}
 use Rattle.cert.specs.State.{State, keys}
 use Rattle.derivation.specs.Operands.{nextStep}
 use Rattle.define.specs.declared.Out.{Out}
@@ -65,8 +65,3 @@ pub record New (k : Key) (s : State) : Type 0 where
 -- `Does` where something is known of the state before.
 pub record DoesFrom (ls os : List ℕ) (P : List Node → State → Type 0) (f : List Node → State → State) (m n : Memory) : Type 0 where
   pub does : (c : ℕ) (t : List Node) (s : State) → Lists ls os t → P t s → StandsFor c t m s → StandsFor c t n (f t s)
-
--- The real definitions of the outputs of a window, ascending.
-unfoldable pub windowReals : ℕ → ℕ → ℕ → List Key
-unfolding range
-windowReals n f m = map {B = Key} (λ (i : ℕ). real n (f + i)) (range 1 m)

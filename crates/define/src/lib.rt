@@ -11,11 +11,11 @@ ghost use Rattle.memo.specs.Visit.{each};
 ghost use Rattle.record.specs.Record.{numbers, steps};
 ghost use Rattle.record.specs.Writing.{buffer, Puts};
 ghost use Rattle.totdb.specs.Nodes.{Node, leaves, len, output};
-ghost use Rattle.cert.specs.Definitions.{Direction, real, realRecords, window-zero, window, sideDef};
+ghost use Rattle.cert.specs.Definitions.{Direction, real, realRecords, window-zero, window, sideDef, windowReals};
 ghost use Rattle.cert.specs.Requests.{keyOf, lacks};
 ghost use Rattle.cert.specs.State.{lookUp, define};
 ghost use Rattle.define.specs.Tables.{memory, Shown, Does, Sizes, RealOf, WindowOf, WindowIn, SideIn};
-ghost use Rattle.define.specs.Stores.{outputIn, Inside, kept, storeStep, storeSteps, moved, New, DoesFrom, windowReals};
+ghost use Rattle.define.specs.Stores.{outputIn, Inside, kept, storeStep, storeSteps, moved, New, DoesFrom};
 
 // The place of the next byte, the next step, how many steps of definitions are stored, and how many
 // clauses are written.

@@ -71,7 +71,7 @@ cases =
     ∷ []
 
 pub worked : map (λ (c : Case). c .got) cases ≡ map (λ (c : Case). c .want) cases
-unfolding cases encode encodeIn above readIn placed written writtenAt readRefusal writtenRefusal
+unfolding cases encode encodeIn above readIn placed written writtenAt
 worked = refl
 
 -- ---- each theorem at numbers that meet its hypotheses

@@ -77,10 +77,10 @@ writtenAt log at x = cond (fits log at x) (End (at + length (encode x))) Full
 
 -- ---- the refusal of document 01 that an answer stands for; 0 is none
 
-unfoldable pub readRefusal : Reading → ℕ
+abbrev pub readRefusal : Reading → ℕ
 readRefusal (Number x e) = 0
 readRefusal Bad = 2
 
-unfoldable pub writtenRefusal : Written → ℕ
+abbrev pub writtenRefusal : Written → ℕ
 writtenRefusal (End e) = 0
 writtenRefusal Full = 14

@@ -5,6 +5,8 @@ use mathlib.Core.List.{List, [], _∷_, _++_}
 use Prim.Native.Nat.{ℕ, zero, suc, _+_, _-_, _≤_}
 use lib.Dec.{leb, ltb, eqb}
 use lib.ListN.{length, drop, replicate}
+use Rattle.number.specs.Number.{writtenRefusal}
+use Rattle.number.specs.declared.Written.the-variants.{Full}
 use Rattle.pb.specs.Sum.{variable, neg}
 use Rattle.record.specs.Record.{deletion, bytes, steps, clauses}
 use Rattle.totdb.specs.Nodes.{Node, leaf, at, len, joined, any, known, leafCount, taken}
@@ -12,7 +14,9 @@ use Rattle.totdb.specs.declared.Side.{Side}
 use Rattle.cert.specs.Requests.{Request, clausesOf, lacksOne}
 use Rattle.cert.specs.State.{State, start, storedSteps, serve, requests, Head}
 use Rattle.player.specs.Script.{Script, script, headless, readScript}
+use Rattle.player.specs.Places.{headRefusal}
 use Rattle.player.specs.declared.Command.{Command}
+use Rattle.player.specs.declared.HeadReading.{HeadReading}
 
 -- ---- questions
 
@@ -97,7 +101,7 @@ pub data Result : Type 0 where
 unfoldable pub lastQuestions : ℕ → State → State → List Question
 unfolding anyLacks bytes
 lastQuestions capacity s u =
-    ask 13 (notb (anyLacks (u .nodes) (drop (length (s .held)) (u .held)))) ∷ ask 14 (leb (length (bytes (u .log))) capacity) ∷ []
+    ask 13 (notb (anyLacks (u .nodes) (drop (length (s .held)) (u .held)))) ∷ ask (writtenRefusal Full) (leb (length (bytes (u .log))) capacity) ∷ []
 
 unfoldable pub verdict : ℕ → State → Result
 verdict zero s = accepted s
@@ -175,7 +179,7 @@ headFits h = leb (h .variable) mostHead && leb 1 (h .step) && leb (h .step) most
 
 unfoldable pub playScript : ℕ → Script → Outcome
 unfolding plays start refusedAtHead headFits
-playScript capacity headless = refusedAtHead capacity 2
+playScript capacity headless = refusedAtHead capacity (headRefusal HeadReading.Bad)
 playScript capacity (script h cs) =
     elim (headFits h) [ true ↦ plays h capacity (cs .ending) (cs .list) 0 (start h) | false ↦ refusedAtHead capacity 3 ]
 

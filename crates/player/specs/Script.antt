@@ -3,7 +3,8 @@ use mathlib.Core.Bool.{Bool, true, false}
 use mathlib.Core.List.{List, [], _∷_, flatMap}
 use Prim.Native.Nat.{ℕ, zero, suc}
 use lib.ListN.{length}
-use Rattle.number.specs.Number.{encodeIn, encode, number, bad, above, readIn, read}
+use Rattle.number.specs.Number.{encodeIn, encode, number, bad, above, readIn, read, readRefusal}
+use Rattle.number.specs.declared.Reading.the-variants.{Bad}
 use Rattle.totdb.specs.declared.Side.{Side}
 use Rattle.cert.specs.State.{Head}
 use Rattle.player.specs.declared.Command.{Command}
@@ -18,7 +19,7 @@ pub data Next : Type 0 where
 -- Question 2, at every number.
 unfoldable pub get : List ℕ → (ℕ → List ℕ → Next) → Next
 unfolding readIn above
-get bs f = elim (read bs) [ number x rest ↦ f x rest | bad ↦ refuse 2 ]
+get bs f = elim (read bs) [ number x rest ↦ f x rest | bad ↦ refuse (readRefusal Bad) ]
 
 abbrev pub getSide : List ℕ → (Side → List ℕ → Next) → Next
 getSide bs g = get bs (λ n r. get r (λ f r. get r (λ k r. g (record { node = n; offset = f; limit = k }) r)))

@@ -16,11 +16,11 @@ use Rattle.record.specs.Writing.{signed}
 use Rattle.record.proofs.Tokens.{tokens-append}
 use Rattle.totdb.specs.Nodes.{Node, at, output, outputs, range}
 use Rattle.memo.proofs.Lists.{flatMap-append}
-use Rattle.cert.specs.Definitions.{Key, addSequence, atLeastZero, keyRecords, window}
+use Rattle.cert.specs.Definitions.{Key, addSequence, atLeastZero, keyRecords, window, windowPair}
 use Rattle.cert.proofs.Apart.{range-mem, length-range}
 use Rattle.cert.proofs.Summands.{if-low, if-high, if-own, only-if-low, only-if-high, only-if-own}
 use Rattle.cert.proofs.WindowDerivations.{range-around}
-use Rattle.window.specs.Window.{added, firstOther, Handed, summand, tokensOf, windowPair}
+use Rattle.window.specs.Window.{added, firstOther, Handed, summand, tokensOf}
 use Rattle.window.proofs.Totals.{added-length, range-first, range-skip, total-length}
 
 -- ---- the two derivations of value v: its only-if where o is true, else its if

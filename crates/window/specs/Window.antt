@@ -1,14 +1,13 @@
 -- What the code is handed for a window, and the two derivations of a value as one definition.
 use mathlib.Core.Path.{_≡_}
 use mathlib.Core.Bool.{Bool, true, false, cond}
-use mathlib.Core.List.{List, [], _∷_, map}
+use mathlib.Core.List.{List, [], map}
 use Prim.Native.Nat.{ℕ, _+_, _-_, _*_, _≤_, _<_}
 use lib.Dec.{eqb}
 use lib.ListN.{length, getD}
 use Rattle.pb.specs.Rules.{Token}
-use Rattle.record.specs.Record.{Record}
 use Rattle.totdb.specs.Nodes.{Node, output, range}
-use Rattle.cert.specs.Definitions.{Key, addSequence, real, ifPart, onlyIfPart, total, windowIf, windowOnlyIf}
+use Rattle.cert.specs.Definitions.{Key, addSequence, real, ifPart, onlyIfPart, total}
 use Rattle.derivation.specs.Operands.{nextStep}
 
 -- For a window of node x of number n, offset f, m outputs: `firsts` has the first step of the real definition of value s at 68 * n + s,
@@ -58,7 +57,3 @@ added p a = addSequence [] (p a)
 -- The first value of a window at offset f that is not v.
 unfoldable pub firstOther : ℕ → ℕ → ℕ
 firstOther f v = cond (eqb v (f + 1)) (f + 2) (f + 1)
-
--- The if and the only-if of v in a window.
-abbrev pub windowPair : (Key → ℕ → ℕ) → ℕ → Node → ℕ → ℕ → ℕ → List Record
-windowPair at-step n x f m v = windowIf at-step n x f m v ∷ windowOnlyIf at-step n x f m v ∷ []

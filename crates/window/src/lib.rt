@@ -7,8 +7,8 @@ ghost use lib.ListN.{length};
 ghost use Rattle.record.specs.Record.{derivation, numbers, tokenNumbers};
 ghost use Rattle.record.specs.Writing.{buffer, Puts};
 ghost use Rattle.totdb.specs.Nodes.{Node, at, range};
-ghost use Rattle.cert.specs.Definitions.{Key, keyRecords, window, windowIf, windowOnlyIf};
-ghost use Rattle.window.specs.Window.{added, Bounds, firstOther, Handed, Reads, summand, tokensOf, windowPair, Within};
+ghost use Rattle.cert.specs.Definitions.{Key, keyRecords, window, windowIf, windowOnlyIf, windowPair};
+ghost use Rattle.window.specs.Window.{added, Bounds, firstOther, Handed, Reads, summand, tokensOf, Within};
 
 // The first value of a window that is not `value`: the first summand that is not empty.
 fn first_other(offset: usize, value: usize) -> usize

@@ -7,9 +7,9 @@ use native.Mathlib.Nat.{le-antisymm}
 use native.Mathlib.Omega.{arith}
 use lib.ListN.{length}
 use Rattle.memo.specs.Visit.{each}
+use Rattle.cert.specs.Definitions.{windowReals}
 use Rattle.cert.specs.State.{lookUp}
 use Rattle.define.specs.Tables.{memory, Does, WindowIn}
-use Rattle.define.specs.Stores.{windowReals}
 use Rattle.define.proofs.Codes.{window-bounds, real-shown, reals-more, reals-none}
 use Rattle.define.proofs.look_up_reals.Statement.{statement}
 use Rattle.define.proofs.look_up_reals.Tie as tie

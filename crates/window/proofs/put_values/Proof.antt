@@ -10,8 +10,8 @@ use Rattle.record.specs.Writing.{buffer, Puts}
 use Rattle.record.proofs.Writing.{after, nothing}
 use Rattle.totdb.specs.Nodes.{Node, range}
 use Rattle.memo.proofs.Lists.{flatMap-append}
-use Rattle.cert.specs.Definitions.{Key}
-use Rattle.window.specs.Window.{Handed, windowPair}
+use Rattle.cert.specs.Definitions.{Key, windowPair}
+use Rattle.window.specs.Window.{Handed}
 use Rattle.window.proofs.Totals.{range-more}
 use Rattle.window.proofs.put_values.Statement.{statement}
 use Rattle.window.proofs.put_values.Tie as tie
