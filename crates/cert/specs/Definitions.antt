@@ -138,6 +138,7 @@ unfoldable pub windowOnlyIf : (Key → ℕ → ℕ) → ℕ → Node → ℕ →
 unfolding total onlyIfPart range
 windowOnlyIf at-step n x f m v = derivation (total [] (map (onlyIfPart at-step n x v) (range (f + 1) m)))
 
+-- Both of a value.
 abbrev pub windowPair : (Key → ℕ → ℕ) → ℕ → Node → ℕ → ℕ → ℕ → List Record
 windowPair at-step n x f m v = windowIf at-step n x f m v ∷ windowOnlyIf at-step n x f m v ∷ []
 

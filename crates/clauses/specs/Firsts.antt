@@ -38,15 +38,16 @@ pub record FirstsOf (t : List Node) (firsts : List ℕ) (es : List Stored) : Typ
 
 -- ---- what is stored
 
+-- Whether a first step stands at a place of the table.
 abbrev pub hasFirst : List ℕ → ℕ → Bool
 hasFirst firsts p = not (eqb (getD firsts p 0) 0)
 
--- What the a-th value of a side looks up, over a node of k values: nothing for a side of length 1, a real definition, or the window.
+-- Whether what the a-th value of a side looks up is stored, over a node of k values: nothing for a side of length 1, a real definition, or the window.
 unfoldable pub sideStored : List ℕ → Side → ℕ → ℕ → Bool
 unfolding plainOr keyed
 sideStored firsts s k a = leb (lengthOver s k) 1 || hasFirst firsts (plainOr (s .offset) (s .limit) (68 * s .node + keyed s a) (68 * s .node + 67))
 
--- What a clause of value v looks up.
+-- Whether all that a clause of value v looks up is stored.
 unfoldable pub clauseStored : List ℕ → Join → ℕ → ℕ → ℕ → Bool
 unfolding sideStored
 clauseStored firsts x v i j =

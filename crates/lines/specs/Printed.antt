@@ -23,6 +23,7 @@ unfoldable pub filterBy : {A : Type 0} → (A → Bool) → List A → List A
 filterBy p [] = []
 filterBy p (x ∷ xs) = elim (p x) [ true ↦ x ∷ filterBy p xs | false ↦ filterBy p xs ]
 
+-- The records of the log are rs.
 pub record Printed (script : List ℕ) (rs : List Record) : Type 0 where
   pub lines : List (List ℕ)
   pub is : sheet script

@@ -36,6 +36,7 @@ afterToken log at =
     let t = itemAt log at in
     cond (eqb (t .value) 2) (t .end) (cond (eqb (t .value) 4) (t .end) (itemAt log (t .end) .end))
 
+-- The place after k tokens.
 unfoldable pub skipTokens : List ℕ → ℕ → ℕ → ℕ
 unfolding afterToken
 skipTokens log zero at = at

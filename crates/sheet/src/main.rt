@@ -7,8 +7,8 @@ ghost use lib.ListN.{length, take};
 ghost use Rattle.io.specs.Counts.{Counts};
 ghost use Rattle.lines.specs.Sheet.{sheet, mostSheet};
 
-// Reads on to the end of the input, so that who writes it is not cut off. The number of turns is a
-// bound that no input reaches: 65,536 bytes each.
+// Reads on to the end of the input, so that its writer is not cut off. The number of turns, of 65,536 bytes each, is a
+// bound that no input reaches.
 fn read_on() {
     let mut rest = io::large_buffer();
     for i in 0..4294967295u32 {
