@@ -146,3 +146,8 @@ module _ {A B C : Type 0} where
   pub map-twice : (f : A → B) (g : B → C) (l : List A) → map g (map f l) ≡ map (λ (a : A). g (f a)) l
   map-twice f g [] = refl
   map-twice f g (x ∷ xs) = ap {B = List C} (λ (r : List C). g (f x) ∷ r) (map-twice f g xs)
+
+  pub flatMap-map : (f : A → B) (g : B → List C) (l : List A) → flatMap g (map f l) ≡ flatMap (λ (a : A). g (f a)) l
+  unfolding flatMap
+  flatMap-map f g [] = refl
+  flatMap-map f g (x ∷ xs) = rw (flatMap-map f g xs)

@@ -179,11 +179,17 @@ module _ {Item : Type 0} {needs : Item → List Item} {Good : Item → Type 0} (
       → (x : Item) → List·Memᴰ x w → Good x
   served-good gv gx p x m = ⊎-elim (gv x) (λ f. reach-good (gx (f .0) (f .1)) (f .2)) (p .only x m)
 
+-- Where the needs of the good items are among others, so is what is reached.
+module _ {Item : Type 0} {needs needs′ : Item → List Item} {Good : Item → Type 0} (good : (a b : Item) → Good a → List·Memᴰ b (needs a) → Good b)
+    (among : (a b : Item) → Good a → List·Memᴰ b (needs a) → List·Memᴰ b (needs′ a)) where
+  pub reach-among : {a b : Item} → Good a → Reach needs a b → Reach needs′ a b
+  reach-among g (reach-here e) = reach-here e
+  reach-among g (reach-down {a} {b} {c} h r) = reach-down (among a c g h) (reach-among (good a c g h) r)
+
 module _ {Item : Type 0} {needs needs′ : Item → List Item} {Good : Item → Type 0} (good : (a b : Item) → Good a → List·Memᴰ b (needs a) → Good b)
     (agree : (a : Item) → Good a → needs a ≡ needs′ a) where
-  pub reach-agree : {a b : Item} → Good a → Reach needs a b → Reach needs′ a b
-  reach-agree g (reach-here e) = reach-here e
-  reach-agree g (reach-down {a} {b} {c} h r) = reach-down (rw (agree a g) at h) (reach-agree (good a c g h) r)
+  reach-agree : {a b : Item} → Good a → Reach needs a b → Reach needs′ a b
+  reach-agree g r = reach-among good (λ a b g h. rw (agree a g) at h) g r
 
   pub serves-agree : {xs v w : List Item} → ((x : Item) → List·Memᴰ x v → Good x) → ((x : Item) → List·Memᴰ x xs → Good x) → Serves needs xs v w
       → Serves needs′ xs v w

@@ -34,6 +34,7 @@ cases =
     ∷ comes (step 1 ∷ step 2 ∷ add ∷ []) (some ((1 · 0 ∷ 2 · 2 ∷ []) ≥ 3))
     ∷ comes (step 1 ∷ divide 3 ∷ []) (some ((1 · 0 ∷ 1 · 2 ∷ []) ≥ 2))
     ∷ comes (step 1 ∷ step 2 ∷ step 2 ∷ add ∷ add ∷ saturate ∷ []) (some ((1 · 2 ∷ []) ≥ 2))
+    ∷ comes (step 1 ∷ literal 1 ∷ add ∷ literal 3 ∷ add ∷ literal 3 ∷ add ∷ literal 2 ∷ add ∷ saturate ∷ []) (some ((1 · 0 ∷ 1 · 2 ∷ []) ≥ 1))
     ∷ comes (literal 3 ∷ []) (some ((1 · 3 ∷ []) ≥ 0))
     -- no such step; an operand missing; an operand left over; nothing; division by 0
     ∷ comes (step 3 ∷ []) none

@@ -5,6 +5,7 @@ use mathlib.Core.List.{List, [], _∷_}
 use Prim.Native.Nat.{ℕ, zero, suc, _+_, _-_, _*_, min, _≤_, _<_}
 use native.Mathlib.Decide.{ℕ-discrete, decLt}
 use native.Mathlib.Omega.{arith}
+use Rattle.pb.specs.Normal.{NormalFrom, Normal}
 use Rattle.pb.specs.Rules.{mapCoefs}
 use Rattle.pb.specs.Sum.{hit, insert, Term, _·_, variable, variables, coef, kept, net, keep, lost, Sum, normal, _≥_, neg}
 use Rattle.pb.proofs.Terms.{hit-zero, hit-other, insert-nil, insert-cases, Placed, hit-same, coef-nil, coef-cons, polarity, variable-even, variable-odd, kept-nil, kept-cons, coef-keep, net-is, hit-cases, lost-nil, lost-cons, neg-even, neg-odd, normal-is, neg-neg, variable-neg, neg-self}
@@ -12,7 +13,7 @@ use Rattle.pb.proofs.Terms.{hit-zero, hit-other, insert-nil, insert-cas
 -- ---- sums of hits over a list of variables
 
 -- c for each time that v stands in the list
-hits : ℕ → List ℕ → ℕ → ℕ
+unfoldable pub hits : ℕ → List ℕ → ℕ → ℕ
 hits c [] v = 0
 hits c (x ∷ xs) v = hit c x v + hits c xs v
 
@@ -63,7 +64,7 @@ hits-insert-other c {v} x (y ∷ ys) n = by (insert-cases x y ys) (hits-insert-o
     by (inr (inr e)) ih = rw (e .1) (omega arith)
 
 -- each variable of the terms stands in the list once
-Covers : List ℕ → List Term → Type 0
+unfoldable pub Covers : List ℕ → List Term → Type 0
 Covers xs [] = Unit {0}
 Covers xs ((c · m) ∷ ts) = ((d : ℕ) → hits d xs (variable m) ≡ d) × Covers xs ts
 
@@ -81,7 +82,7 @@ unfolding variables
 variables-up [] = tt
 variables-up ((c · m) ∷ ts) = Up-insert (variable m) (variables ts) (omega arith) (variables-up ts)
 
-variables-cover : (ts : List Term) → Covers (variables ts) ts
+pub variables-cover : (ts : List Term) → Covers (variables ts) ts
 unfolding Covers variables
 variables-cover [] = tt
 variables-cover ((c · m) ∷ ts) = (
@@ -193,59 +194,74 @@ weight-kept ts (x ∷ xs) =
 pub weight-normal : (ts : List Term) → weight (kept ts (variables ts)) + 2 * lost ts (variables ts) ≡ weight ts
 weight-normal ts = weight-kept ts (variables ts) ∙ sym (weight-spread ts (variables ts) (variables-cover ts))
 
--- ---- the normal form is ascending, and such a list is known by its coefficients
+-- ---- a normal form is known by its coefficients
 
--- ascending, from k on, and positive
-abbrev pub Rising : ℕ → List Term → Type 0
-Rising k [] = Unit {0}
-Rising k ((c · m) ∷ ts) = (k ≤ m) × (0 < c) × Rising (suc m) ts
+weaken : (j k : ℕ) (ts : List Term) → j ≤ k → NormalFrom k ts → NormalFrom j ts
+weaken j k [] h u = tt
+weaken j k ((c · m) ∷ ts) h u = (omega arith, u .1, u .2)
 
-Rising-weaken : (j k : ℕ) (ts : List Term) → j ≤ k → Rising k ts → Rising j ts
-Rising-weaken j k [] h u = tt
-Rising-weaken j k ((c · m) ∷ ts) h u = (omega arith, u .1, u .2)
-
-Rising-keep : (k c m : ℕ) (ts : List Term) → k ≤ m → Rising (suc m) ts → Rising k (keep c m ts)
+-- What is left of one variable is one of its literals at most.
+keep-two : (k x c d : ℕ) (ts : List Term) → k ≤ x → min c d ≡ 0 → NormalFrom (suc x) ts
+    → NormalFrom k (keep c (2 * x) (keep d (2 * x + 1) ts))
 unfolding keep
-Rising-keep k zero m ts h u = Rising-weaken k (suc m) ts (omega arith) u
-Rising-keep k (suc c) m ts h u = (h, omega arith, u)
+keep-two k x zero zero ts g h u = weaken k (suc x) ts (omega arith) u
+keep-two k x zero (suc d) ts g h u = rw variable-odd (g, omega arith, u)
+keep-two k x (suc c) zero ts g h u = rw variable-even (g, omega arith, u)
+keep-two k x (suc c) (suc d) ts g h u = absurd (omega arith)
 
-Rising-kept : (k : ℕ) (ts : List Term) (xs : List ℕ) → Up k xs → Rising (2 * k) (kept ts xs)
-Rising-kept k ts [] u = rw kept-nil tt
-Rising-kept k ts (x ∷ xs) u =
-    rw kept-cons (Rising-keep (2 * k) (net ts (2 * x)) (2 * x) _ (omega arith)
-    (Rising-keep (suc (2 * x)) (net ts (2 * x + 1)) (2 * x + 1) _ (omega arith)
-    (Rising-weaken (suc (2 * x + 1)) (2 * suc x) (kept ts xs) (omega arith) (Rising-kept (suc x) ts xs (u .1)))))
+kept-from : (k : ℕ) (ts : List Term) (xs : List ℕ) → Up k xs → NormalFrom k (kept ts xs)
+kept-from k ts [] u = rw kept-nil tt
+kept-from k ts (x ∷ xs) u =
+    rw kept-cons (keep-two k x (net ts (2 * x)) (net ts (2 * x + 1)) (kept ts xs) (u .0) one (kept-from (suc x) ts xs (u .1)))
+  where
+    one : min (net ts (2 * x)) (net ts (2 * x + 1)) ≡ 0
+    one = simp (net-is, neg-even, neg-odd) (omega arith)
 
-pub Rising-normal : (ts : List Term) → Rising 0 (kept ts (variables ts))
-Rising-normal ts = Rising-kept 0 ts (variables ts) (variables-up ts)
+kept-normal : (ts : List Term) → NormalFrom 0 (kept ts (variables ts))
+kept-normal ts = kept-from 0 ts (variables ts) (variables-up ts)
 
-coef-below : (k l : ℕ) (ts : List Term) → l < k → Rising k ts → coef ts l ≡ 0
+-- The normal form of any sum is one: each variable stands in one term at most.
+pub normal-form : (s : Sum) → Normal (normal s)
+normal-form s = rw (normal-is s) (kept-normal (s .terms))
+
+coef-below : (k l : ℕ) (ts : List Term) → variable l < k → NormalFrom k ts → coef ts l ≡ 0
 coef-below k l [] h u = coef-nil l
 coef-below k l ((c · m) ∷ ts) h u =
-    rw coef-cons (omega (arith, hit-other c {m = m} {l = l} (omega arith), coef-below (suc m) l ts (omega arith) (u .2)))
+    rw coef-cons (omega (
+      arith,
+      hit-other c {m = m} {l = l} (λ (e : m ≡ l). omega (arith, ap variable e, u .0)),
+      coef-below (suc (variable m)) l ts (omega (arith, u .0)) (u .2),
+    ))
 
 -- the first literal of the one is no literal of the other
-rising-apart : (k c m d n : ℕ) (ts us : List Term) → Rising k ((c · m) ∷ ts) → Rising k ((d · n) ∷ us)
-    → ((l : ℕ) → coef ((c · m) ∷ ts) l ≡ coef ((d · n) ∷ us) l) → m < n → ⊥
-rising-apart k c m d n ts us u v e h =
-    omega (arith, coef-cons c m ts m, coef-below n m ((d · n) ∷ us) h (omega arith, v .1, v .2), e m, hit-same c {m = m} {l = m} refl)
+form-apart : (k c m d n : ℕ) (ts us : List Term) → NormalFrom k ((c · m) ∷ ts) → NormalFrom k ((d · n) ∷ us)
+    → ((l : ℕ) → coef ((c · m) ∷ ts) l ≡ coef ((d · n) ∷ us) l) → variable m ≤ variable n → n ≢ m → ⊥
+form-apart k c m d n ts us u v e h q =
+    omega (
+      arith,
+      u .1,
+      coef-cons c m ts m,
+      coef-cons d n us m,
+      hit-other d {m = n} {l = m} q,
+      coef-below (suc (variable n)) m us (omega arith) (v .2),
+      e m,
+      hit-same c {m = m} {l = m} refl,
+    )
 
-pub rising-ext : (k : ℕ) (ts us : List Term) → Rising k ts → Rising k us → ((l : ℕ) → coef ts l ≡ coef us l) → ts ≡ us
-rising-ext k [] [] u v e = refl
-rising-ext k [] ((d · n) ∷ us) u v e = absurd (omega (arith, coef-cons d n us n, coef-nil n, e n, hit-same d {m = n} {l = n} refl))
-rising-ext k ((c · m) ∷ ts) [] u v e = absurd (omega (arith, coef-cons c m ts m, coef-nil m, e m, hit-same c {m = m} {l = m} refl))
-rising-ext k ((c · m) ∷ ts) ((d · n) ∷ us) u v e = by (decLt m n) (decLt n m) (rising-ext (suc m) ts us)
+pub form-ext : (k : ℕ) (ts us : List Term) → NormalFrom k ts → NormalFrom k us → ((l : ℕ) → coef ts l ≡ coef us l) → ts ≡ us
+form-ext k [] [] u v e = refl
+form-ext k [] ((d · n) ∷ us) u v e = absurd (omega (arith, v .1, coef-cons d n us n, coef-nil n, e n, hit-same d {m = n} {l = n} refl))
+form-ext k ((c · m) ∷ ts) [] u v e = absurd (omega (arith, u .1, coef-cons c m ts m, coef-nil m, e m, hit-same c {m = m} {l = m} refl))
+form-ext k ((c · m) ∷ ts) ((d · n) ∷ us) u v e = by (ℕ-discrete m n) (decLt (variable n) (variable m)) (form-ext (suc (variable m)) ts us)
   where
-    by : Dec (m < n) → Dec (n < m) → (Rising (suc m) ts → Rising (suc m) us → ((l : ℕ) → coef ts l ≡ coef us l) → ts ≡ us)
+    by : Dec (m ≡ n) → Dec (variable n < variable m)
+        → (NormalFrom (suc (variable m)) ts → NormalFrom (suc (variable m)) us → ((l : ℕ) → coef ts l ≡ coef us l) → ts ≡ us)
         → _≡_ {A = List Term} ((c · m) ∷ ts) ((d · n) ∷ us)
-    by (yes h) q ih = absurd (rising-apart k c m d n ts us u v e h)
-    by (no g) (yes h) ih = absurd (rising-apart k d n c m us ts v u (λ (l : ℕ). sym (e l)) h)
-    by (no g) (no h) ih = ap₂ (λ (t : Term) (r : List Term). t ∷ r) (ap₂ _·_ heads same) (ih (u .2) under tails)
+    by (no q) (yes h) ih = absurd (form-apart k d n c m us ts v u (λ (l : ℕ). sym (e l)) (omega arith) q)
+    by (no q) (no h) ih = absurd (form-apart k c m d n ts us u v e (omega arith) (λ (p : n ≡ m). q (sym p)))
+    by (yes same) h ih = ap₂ (λ (t : Term) (r : List Term). t ∷ r) (ap₂ _·_ heads same) (ih (u .2) under tails)
       where
-        same : m ≡ n
-        same = omega arith
-
-        under : Rising (suc m) us
+        under : NormalFrom (suc (variable m)) us
         under = rw same (v .2)
 
         heads : c ≡ d
@@ -256,8 +272,8 @@ rising-ext k ((c · m) ∷ ts) ((d · n) ∷ us) u v e = by (decLt m n) (decLt n
           coef-cons d n us m,
           hit-same c {m = m} {l = m} refl,
           hit-same d {m = n} {l = m} (sym same),
-          coef-below (suc m) m ts (omega arith) (u .2),
-          coef-below (suc m) m us (omega arith) under,
+          coef-below (suc (variable m)) m ts (omega arith) (u .2),
+          coef-below (suc (variable m)) m us (omega arith) under,
         )
 
         tails : (l : ℕ) → coef ts l ≡ coef us l
@@ -271,19 +287,19 @@ spent s = lost (s .terms) (variables (s .terms))
 
 kept-same : (ts us : List Term) → ((l : ℕ) → net ts l ≡ net us l) → kept ts (variables ts) ≡ kept us (variables us)
 kept-same ts us e =
-    rising-ext 0 _ _ (Rising-normal ts) (Rising-normal us)
+    form-ext 0 _ _ (kept-normal ts) (kept-normal us)
     (λ (l : ℕ). coef-normal ts l ∙ e l ∙ sym (coef-normal us l))
 
 pub normal-ext : (s t : Sum) → ((l : ℕ) → net (s .terms) l ≡ net (t .terms) l) → s .bound - spent s ≡ t .bound - spent t → normal s ≡ normal t
 unfolding spent
 normal-ext s t e b = rw (normal-is s, normal-is t) (ap₂ _≥_ (kept-same (s .terms) (t .terms) e) b)
 
--- The normal form is the one list that is ascending and positive and has these coefficients: what a program shows of its own.
-pub normal-unique : (s : Sum) (ts : List Term) (b : ℕ) → Rising 0 ts → ((l : ℕ) → coef ts l ≡ net (s .terms) l) → b ≡ s .bound - spent s
+-- The normal form is the one that has these coefficients: what a program shows of its own.
+pub normal-unique : (s : Sum) (ts : List Term) (b : ℕ) → Normal (ts ≥ b) → ((l : ℕ) → coef ts l ≡ net (s .terms) l) → b ≡ s .bound - spent s
     → normal s ≡ (ts ≥ b)
 unfolding spent
 normal-unique s ts b u e h =
-    rw (normal-is s) (ap₂ _≥_ (rising-ext 0 _ _ (Rising-normal (s .terms)) u (λ (l : ℕ). coef-normal (s .terms) l ∙ sym (e l))) (sym h))
+    rw (normal-is s) (ap₂ _≥_ (form-ext 0 _ _ (kept-normal (s .terms)) u (λ (l : ℕ). coef-normal (s .terms) l ∙ sym (e l))) (sym h))
 
 -- Two sums say the same if at each literal the one's coefficient less the negation's is the other's, and so is the weight less twice the bound.
 -- Both differences are additive, so what `add` makes is read off by linear arithmetic.
@@ -396,10 +412,10 @@ unfolding Once
 Once-apart [] h = tt
 Once-apart ((c · m) ∷ ts) h = (coef-off m ts (h .0), Once-apart ts (h .1))
 
-Once-rising : (k : ℕ) (ts : List Term) → Rising k ts → Once ts
+Once-form : (k : ℕ) (ts : List Term) → NormalFrom k ts → Once ts
 unfolding Once
-Once-rising k [] h = tt
-Once-rising k ((c · m) ∷ ts) h = (coef-below (suc m) m ts (omega arith) (h .2), Once-rising (suc m) ts (h .2))
+Once-form k [] h = tt
+Once-form k ((c · m) ∷ ts) h = (coef-below (suc (variable m)) m ts (omega arith) (h .2), Once-form (suc (variable m)) ts (h .2))
 
 coef-each : (f : ℕ → ℕ) → f 0 ≡ 0 → (ts : List Term) → Once ts → (l : ℕ) → coef (mapCoefs f ts) l ≡ f (coef ts l)
 unfolding mapCoefs Once
@@ -427,7 +443,7 @@ normal-each f z ts b d h = rw (normal-is (ts ≥ b)) (normal-clean (mapCoefs f (
 
     same : (l : ℕ) → coef (mapCoefs f (kept ts (variables ts))) l ≡ coef (mapCoefs f ts) l
     same l =
-        coef-each f z (kept ts (variables ts)) (Once-rising 0 _ (Rising-normal ts)) l
+        coef-each f z (kept ts (variables ts)) (Once-form 0 _ (kept-normal ts)) l
         ∙ ap f (coef-normal ts l ∙ net-clean ts l (Apart-clean ts h))
         ∙ sym (coef-each f z ts (Once-apart ts h) l)
 
@@ -451,13 +467,10 @@ unfolding spent
 spent-clean s h = lost-clean (s .terms) (variables (s .terms)) h
 
 pub normal-normal : (s : Sum) → normal (normal s) ≡ normal s
-normal-normal s = normal-unique (normal s) (normal s .terms) (normal s .bound) rising coefs (omega (arith, spent-clean (normal s) clean))
+normal-normal s = normal-unique (normal s) (normal s .terms) (normal s .bound) (normal-form s) coefs (omega (arith, spent-clean (normal s) clean))
   where
     clean : Clean (normal s .terms)
     clean = rw (normal-is s) (Clean-kept (s .terms))
-
-    rising : Rising 0 (normal s .terms)
-    rising = rw (normal-is s) (Rising-normal (s .terms))
 
     coefs : (l : ℕ) → coef (normal s .terms) l ≡ net (normal s .terms) l
     coefs l = sym (net-clean (normal s .terms) l clean)

@@ -1,2 +1,4 @@
 pub mod Sum
 pub mod Rules
+pub mod Normal
+pub mod Truth

@@ -1,8 +1,14 @@
 -- A log read back, a log written, and the bytes that records take.
 pub mod Answers
 pub mod Bytes
+pub mod Closes
 pub mod Decode
+pub mod Groups
+pub mod Steps
 pub mod Sums
 pub mod Tokens
 pub mod Writing
+pub mod WrittenCases
 pub mod WritingCases
+pub mod Truth
+pub mod TruthCases

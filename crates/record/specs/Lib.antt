@@ -1,3 +1,5 @@
 pub mod Record
 pub mod Steps
 pub mod Writing
+pub mod Truth
+pub mod Written
