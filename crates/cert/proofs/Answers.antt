@@ -1,13 +1,27 @@
--- Two requests in both directions through a window, worked out: the numbers of their records are those that rustsat 0.7.5 writes.
+-- Worked out: the sums of a window, and two requests in both directions through a window, the numbers of whose records are those that
+-- rustsat 0.7.5 writes.
 use mathlib.Core.Path.{_≡_, refl}
 use mathlib.Core.List.{List, [], _∷_, flatMap}
+use mathlib.Core.Option.{some}
+use Rattle.pb.specs.Sum.{_·_, _≥_}
 use Rattle.record.specs.Record.{numbers}
+use Rattle.record.specs.Steps.{written, derived}
 use Rattle.totdb.specs.Nodes.{Node, leaf, join}
-use Rattle.cert.specs.State.{State, start, serve, requests}
+use Rattle.cert.specs.Definitions.{window, definedBy}
+use Rattle.cert.specs.State.{State, start, serve, requests, storedSteps}
 use Rattle.cert.proofs.SchemaCases.{side}
 
+-- The window of the last three of four outputs, 10 12 14: if and only-if of values 2, 3 and 4, and the value above.
+pub window-sums : definedBy (join (0 ∷ 2 ∷ 4 ∷ 6 ∷ []) 4 (side 0 0) (side 1 0) ∷ []) (window 0 1 3) ≡
+    derived (some ((2 · 10 ∷ 1 · 13 ∷ 1 · 15 ∷ []) ≥ 2)) ∷ derived (some ((1 · 12 ∷ 1 · 14 ∷ []) ≥ 0))
+    ∷ derived (some ((1 · 11 ∷ 1 · 12 ∷ 1 · 15 ∷ []) ≥ 1)) ∷ derived (some ((1 · 10 ∷ 1 · 13 ∷ 1 · 14 ∷ []) ≥ 1))
+    ∷ derived (some ((1 · 11 ∷ 1 · 13 ∷ []) ≥ 0)) ∷ derived (some ((1 · 10 ∷ 1 · 12 ∷ 2 · 15 ∷ []) ≥ 2))
+    ∷ written 0 (1 · 11 ∷ 1 · 13 ∷ 1 · 15 ∷ []) 0 ∷ []
+unfolding definedBy
+window-sums = refl
+
 -- The leaves 0 2 4 6; node 4 joins the first two, node 5 that and the third, node 6 the outputs of node 5 from offset 1 on and the fourth.
-pub table : List Node
+unfoldable pub table : List Node
 table =
     leaf 0 ∷ leaf 2 ∷ leaf 4 ∷ leaf 6
     ∷ join (0 ∷ 2 ∷ []) 4 (side 0 0) (side 1 0)
@@ -43,3 +57,8 @@ pub record-numbers : flatMap numbers (after .log) ≡
     ∷ 3 ∷ 37 ∷ 2 ∷ 16 ∷ 23 ∷ 2 ∷ 4 ∷ 0 ∷ 35 ∷ 0 ∷ 24 ∷ 2 ∷ 4 ∷ 3 ∷ 38 ∷ 2 ∷ 6 ∷ 23 ∷ []
 unfolding after serve requests start numbers flatMap
 record-numbers = refl
+
+-- Of the 38 steps the stored ones are those of no clause, a window's derivations among them.
+pub stored-steps : storedSteps table (after .stored) ≡ 1 ∷ 2 ∷ 5 ∷ 6 ∷ 8 ∷ 9 ∷ 17 ∷ 18 ∷ 19 ∷ 20 ∷ 21 ∷ 22 ∷ 23 ∷ 24 ∷ 25 ∷ 26 ∷ 32 ∷ 34 ∷ 35 ∷ []
+unfolding table after serve requests start storedSteps
+stored-steps = refl

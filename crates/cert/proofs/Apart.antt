@@ -1,18 +1,19 @@
 -- The clauses are each written once: no request has one twice, and no two requests share one. A clause's last literal says whose it is.
 use mathlib.Core.Path.{_≡_, refl, sym, _∙_, ap, subst}
-use mathlib.Core.Logic.{⊎-elim, dite, _≢_}
-use mathlib.Core.List.{List, [], _∷_, _++_, map, List·Memᴰ, List·Memᴰ·head, List·Memᴰ·tail, List·Memᴰ·not-nil, List·Memᴰ·append-cases, List·Memᴰ·cases-cons, Memᴰ·of-map, List·Nodup, nodup-nil, nodup-cons, head-eq-of-cons-eq}
+use mathlib.Core.Logic.{_⊎_, inl, inr, ⊎-elim, dite, _≢_}
+use mathlib.Core.List.{List, [], _∷_, _++_, map, List·Memᴰ, List·Memᴰ·head, List·Memᴰ·tail, List·Memᴰ·not-nil, List·Memᴰ·cases-cons, Memᴰ·map, Memᴰ·of-map, List·Nodup, nodup-nil, nodup-cons, head-eq-of-cons-eq}
 use Prim.Native.Nat.{ℕ, zero, suc, _+_, _-_, _*_, _%_, min, _≤_, _<_}
 use native.Mathlib.Decide.{decLe, decLt}
 use native.Mathlib.Omega.{arith}
 use lib.ListN.{length}
 use Rattle.pb.specs.Sum.{neg}
 use Rattle.memo.proofs.Lists.{not-mem, map-twice, nodup-map}
-use Rattle.totdb.specs.Nodes.{range, Node, len, at, leaf, join, sideLen, sideLeaves, output, sideLit}
+use Rattle.totdb.specs.Nodes.{range, Node, len, at, leaf, join, sideLen, output, sideLit}
 use Rattle.totdb.specs.declared.Side.{Side}
 use Rattle.cert.specs.Definitions.{Direction, if, only-if}
-use Rattle.cert.specs.Requests.{splits, positive, within, named, Request, request, needs, needsAt, below, negPart, posPart, clausesOf, clausesAt, ifClause, onlyIfClause, Clause, literalsOf}
-use Rattle.cert.proofs.Rules.{Ok, Below}
+use Rattle.cert.specs.Requests.{splits, positive, within, named, Request, request, needs, needsAt, below, negPart, posPart, clausesOf, clausesAt, ifClause, onlyIfClause, Clause, literalsOf, Right}
+use Rattle.cert.specs.Sized.{Fit, Sized, Numbered}
+use Rattle.cert.proofs.Rules.{Ok, Below, needs-cases}
 
 pub range-mem : (s n a : ℕ) → List·Memᴰ a (range s n) → (s ≤ a) × (a < s + n)
 unfolding range
@@ -47,14 +48,24 @@ pub splits-mem : (v p q a : ℕ) → List·Memᴰ a (splits v p q) → (a ≤ v)
 unfolding splits
 splits-mem v p q a m = omega (arith, range-mem (v - q) (suc (min v p) - (v - q)) a m)
 
-positive-mem : (l : List ℕ) (a : ℕ) → List·Memᴰ a (positive l) → (1 ≤ a) × List·Memᴰ a l
+pub splits-has : (v p q a : ℕ) → a ≤ v → a ≤ p → v ≤ a + q → List·Memᴰ a (splits v p q)
+unfolding splits
+splits-has v p q a h k l = range-has (v - q) (suc (min v p) - (v - q)) a (omega arith) (omega arith)
+
+pub positive-mem : (l : List ℕ) (a : ℕ) → List·Memᴰ a (positive l) → (1 ≤ a) × List·Memᴰ a l
 unfolding positive
 positive-mem [] a m = absurd (List·Memᴰ·not-nil m)
 positive-mem (zero ∷ l) a m = let r = positive-mem l a m in (r .0, List·Memᴰ·tail (r .1))
 positive-mem (suc b ∷ l) a m =
     ⊎-elim (λ e. (omega arith, List·Memᴰ·head e)) (λ h. let r = positive-mem l a h in (r .0, List·Memᴰ·tail (r .1))) (List·Memᴰ·cases-cons m)
 
-within-mem : (p : ℕ) (l : List ℕ) (a : ℕ) → List·Memᴰ a (within p l) → (a ≤ p) × List·Memᴰ a l
+pub positive-has : (l : List ℕ) (a : ℕ) → 1 ≤ a → List·Memᴰ a l → List·Memᴰ a (positive l)
+unfolding positive
+positive-has [] a h m = m
+positive-has (zero ∷ l) a h m = ⊎-elim (λ e. absurd (omega arith)) (positive-has l a h) (List·Memᴰ·cases-cons m)
+positive-has (suc b ∷ l) a h m = ⊎-elim (λ e. List·Memᴰ·head e) (λ i. List·Memᴰ·tail (positive-has l a h i)) (List·Memᴰ·cases-cons m)
+
+pub within-mem : (p : ℕ) (l : List ℕ) (a : ℕ) → List·Memᴰ a (within p l) → (a ≤ p) × List·Memᴰ a l
 unfolding within
 within-mem p [] a m = absurd (List·Memᴰ·not-nil m)
 within-mem p (b ∷ l) a m = step (decLe b p) (within-mem p l a) m
@@ -64,25 +75,34 @@ within-mem p (b ∷ l) a m = step (decLe b p) (within-mem p l a) m
     step (yes k) f h = ⊎-elim (λ e. (omega arith, List·Memᴰ·head e)) (λ i. let r = f i in (r .0, List·Memᴰ·tail (r .1))) (List·Memᴰ·cases-cons h)
     step (no k) f h = let r = f h in (r .0, List·Memᴰ·tail (r .1))
 
-named-mem : (d : Direction) (v p q a : ℕ) → List·Memᴰ a (named d v p q) → (1 ≤ a) × (a ≤ p)
+pub within-has : (p : ℕ) (l : List ℕ) (a : ℕ) → a ≤ p → List·Memᴰ a l → List·Memᴰ a (within p l)
+unfolding within
+within-has p [] a h m = m
+within-has p (b ∷ l) a h m = step (decLe b p) (within-has p l a h) (List·Memᴰ·cases-cons m)
+  where
+    step : (d : Dec (b ≤ p)) → (List·Memᴰ a l → List·Memᴰ a (within p l)) → (a ≡ b) ⊎ List·Memᴰ a l
+        → List·Memᴰ a (dite d (λ _. b ∷ within p l) (λ _. within p l))
+    step (yes k) f (inl e) = List·Memᴰ·head e
+    step (yes k) f (inr i) = List·Memᴰ·tail (f i)
+    step (no k) f (inl e) = absurd (omega arith)
+    step (no k) f (inr i) = f i
+
+-- In both directions the same indices are named.
+pub named-mem : (d : Direction) (v p q a : ℕ) → 1 ≤ v → List·Memᴰ a (named d v p q) → (1 ≤ a) × (a ≤ p) × (a ≤ v) × (v ≤ a + q)
 unfolding named
-named-mem if v p q a m = let r = positive-mem (splits v p q) a m in omega (arith, r .0, splits-mem v p q a (r .1))
-named-mem only-if v p q a m = let r = within-mem p (map suc (splits (v - 1) p q)) a m in let i = Memᴰ·of-map suc (splits (v - 1) p q) (r .1) in
-    omega (arith, r .0, i .2)
+named-mem if v p q a h m = let r = positive-mem (splits v p q) a m in omega (arith, r .0, splits-mem v p q a (r .1))
+named-mem only-if v p q a h m =
+    let r = within-mem p (map suc (splits (v - 1) p q)) a m in
+    let i = Memᴰ·of-map suc (splits (v - 1) p q) (r .1) in
+    omega (arith, r .0, i .2, splits-mem (v - 1) p q (i .0) (i .1))
 
--- A request as it is put: the value is one of the node's.
-unfoldable pub Right : List Node → Request → Type 0
-Right t (request n v d) = (n < length t) × (1 ≤ v) × (v ≤ len (at t n))
-
--- The sides of a join are at two lower nodes, inside their lengths, and its length is the sum of theirs.
-unfoldable pub Fit : List Node → ℕ → Node → Type 0
-Fit t n (leaf a) = Unit {0}
-Fit t n (join m o l r) = (l .node < n) × (r .node < n) × (l .node ≢ r .node) × (l .offset + sideLen t l ≤ len (at t (l .node)))
-    × (r .offset + sideLen t r ≤ len (at t (r .node))) × (length m ≡ sideLen t l + sideLen t r) × (m ≡ sideLeaves t l ++ sideLeaves t r)
-    × (1 ≤ sideLen t l) × (1 ≤ sideLen t r)
-
-unfoldable pub Sized : List Node → Type 0
-Sized t = (n : ℕ) → n < length t → Fit t n (at t n)
+pub named-has : (d : Direction) (v p q a : ℕ) → 1 ≤ a → a ≤ p → a ≤ v → v ≤ a + q → List·Memᴰ a (named d v p q)
+unfolding named
+named-has if v p q a h k i j = positive-has (splits v p q) a h (splits-has v p q a i k j)
+named-has only-if v p q zero h k i j = absurd (omega arith)
+named-has only-if v p q (suc a) h k i j =
+    within-has p (map suc (splits (v - 1) p q)) (suc a) k
+    (Memᴰ·map suc (splits-has (v - 1) p q a (omega arith) (omega arith) (omega arith)))
 
 -- No two outputs have one literal.
 unfoldable pub Apart : List Node → Type 0
@@ -97,13 +117,12 @@ right-needs t sz (request n v d) y x m = go (at t n) (sz n (x .0)) m
         → List·Memᴰ y (below d s (named d v (sideLen t s) q)) → Right t y
     side s q h k g =
         let i = Memᴰ·of-map (λ (i : ℕ). request (s .node) (s .offset + i) d) (named d v (sideLen t s) q) g in
-        subst (Right t) (i .2) (omega (arith, named-mem d v (sideLen t s) q (i .0) (i .1)))
+        subst (Right t) (i .2) (omega (arith, named-mem d v (sideLen t s) q (i .0) (x .1) (i .1)))
 
     go : (a : Node) → Fit t n a → List·Memᴰ y (needsAt t a v d) → Right t y
     go (leaf a) f g = absurd (List·Memᴰ·not-nil g)
     go (join p o l r) f g =
-        ⊎-elim (side l (sideLen t r) (omega arith) (f .3)) (side r (sideLen t l) (omega arith) (f .4))
-        (List·Memᴰ·append-cases (below d l (named d v (sideLen t l) (sideLen t r))) g)
+        ⊎-elim (side l (sideLen t r) (omega arith) (f .3)) (side r (sideLen t l) (omega arith) (f .4)) (needs-cases t p o l r v d y g)
 
 -- The literals of the clauses of a request, by the node.
 unfoldable groupAt : List Node → Node → ℕ → Direction → List (List ℕ)
@@ -305,15 +324,6 @@ group-once t sz apart (request n v d) x = rw group-is (go (at t n) d (sz n (x .0
         nodup-map {B = List ℕ} (λ (a : ℕ). posPart t l (suc a) ++ posPart t r (suc (v - 1 - a)) ++ (neg (output (join m o l r) v) ∷ []))
         (splits (v - 1) (sideLen t l) (sideLen t r)) (splits-once (v - 1) (sideLen t l) (sideLen t r))
         (λ a b i j e. only-inj t apart m o l r fit v (neg (output (join m o l r) v)) a b (x .1) h i j e)
-
--- How the accepted commands number the literals: leaves below the first output variable and each its own, and the outputs of a join after those of
--- the joins before.
-pub record Numbered (start : ℕ) (t : List Node) : Type 0 where
-  pub leaf-low : (n a : ℕ) → n < length t → at t n ≡ leaf a → a < 2 * start
-  pub leaf-once : (n k a : ℕ) → n < length t → k < length t → at t n ≡ leaf a → at t k ≡ leaf a → n ≡ k
-  pub join-high : (n : ℕ) (m : List ℕ) (o : ℕ) (l r : Side) → n < length t → at t n ≡ join m o l r → start ≤ o
-  pub join-next : (n k : ℕ) (m : List ℕ) (o : ℕ) (m′ : List ℕ) (o′ : ℕ) (l r l′ r′ : Side) → n < k → k < length t → at t n ≡ join m o l r
-      → at t k ≡ join m′ o′ l′ r′ → o + length m ≤ o′
 
 pub numbered-apart : (start : ℕ) (t : List Node) → Numbered start t → Apart t
 unfolding Apart len output

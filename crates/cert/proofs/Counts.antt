@@ -12,10 +12,11 @@ use Rattle.memo.proofs.Lists.{flatMap-append}
 use Rattle.record.specs.Record.{Record, steps, sum, derivation, clause, deletion, clauses}
 use Rattle.record.specs.Steps.{Defined, derived}
 use Rattle.totdb.specs.Nodes.{Node, len, leaves, at, range, outputs}
+use Rattle.cert.specs.Counted.{KeyIn, keyNode, CountedIn, Counted}
 use Rattle.cert.specs.Definitions.{realRecords, asWritten, atLeastZero, realIf, realOnlyIf, Key, windowIf, windowOnlyIf, windowIfSum, windowOnlyIfSum, keyRecords, definedBy, real, window-zero, window}
 use Rattle.cert.specs.Requests.{Clause, clauseTokens, Request}
 use Rattle.cert.specs.State.{State, keys, start, define, stepIn, write, serve, hold, Head}
-use Rattle.cert.proofs.Rules.{KeyIn, keyNode, at-more, Ok}
+use Rattle.cert.proofs.Rules.{at-more, Ok}
 use Rattle.cert.proofs.Serving.{define-keys, define-clauses, write-clauses, Asked, serve-in}
 
 pub steps-append : (rs qs : List Record) → steps (rs ++ qs) ≡ steps rs + steps qs
@@ -65,14 +66,6 @@ defined-more t u (window n o m) i = rw (at-more t u n i)
 
 -- ---- the invariant, over a table
 
-pub record CountedIn (h : Head) (t : List Node) (s : State) : Type 0 where
-  pub next : s .next-step ≡ h .step + steps (s .log)
-  pub keys-in : (k : Key) → List·Memᴰ k (keys s) → KeyIn t k
-  pub count : steps (s .log) ≡ length (flatMap (definedBy t) (keys s)) + length (clauses (s .log))
-
-abbrev pub Counted : Head → State → Type 0
-Counted h s = CountedIn h (s .nodes) s
-
 pub counted-start : (h : Head) → Counted h (start h)
 unfolding start keys steps clauses flatMap
 counted-start h = record { next = omega arith; keys-in = λ k m. absurd (List·Memᴰ·not-nil m); count = refl }
@@ -81,7 +74,7 @@ snoc-length : {A B : Type 0} (f : A → List B) (xs : List A) (k : A) → length
 unfolding flatMap
 snoc-length f xs k = rw (flatMap-append f xs (k ∷ []), length-append (flatMap f xs) (f k ++ []), append-nil (f k))
 
-counted-define : (h : Head) (t : List Node) (k : Key) (s : State) → KeyIn t k → CountedIn h t s → CountedIn h t (define t k s)
+pub counted-define : (h : Head) (t : List Node) (k : Key) (s : State) → KeyIn t k → CountedIn h t s → CountedIn h t (define t k s)
 counted-define h t k s i c = record {
   next = unfold define in omega (arith, c .next, steps-append (s .log) (keyRecords (stepIn (s .stored)) t k));
   keys-in = λ j m. ⊎-elim (c .keys-in j) (λ n. subst (KeyIn t) (sym (List·Memᴰ·eq-of-singleton n)) i)
@@ -95,7 +88,7 @@ unfolding write
 write-steps c s = steps-append (s .log) (derivation (clauseTokens (stepIn (s .stored)) c) ∷ clause (s .next-step) (c .literals) ∷ [])
     ∙ (unfold steps in refl)
 
-counted-write : (h : Head) (t : List Node) (c : Clause) (s : State) → CountedIn h t s → CountedIn h t (write c s)
+pub counted-write : (h : Head) (t : List Node) (c : Clause) (s : State) → CountedIn h t s → CountedIn h t (write c s)
 counted-write h t c s k = record {
   next = omega (arith, write-steps c s, k .next, write-next c s);
   keys-in = unfold write keys in k .keys-in;
@@ -109,10 +102,10 @@ counted-write h t c s k = record {
     write-keys-same : (c : Clause) (s : State) → keys (write c s) ≡ keys s
     write-keys-same c s = unfold write keys in refl
 
+pub counted-hold : (h : Head) (t : List Node) (x : Request) (s : State) → CountedIn h t s → CountedIn h t (hold x s)
+counted-hold h t x s r = record { next = unfold hold in r .next; keys-in = unfold hold keys in r .keys-in; count = unfold hold keys in r .count }
+
 pub counted-serve : (h : Head) (t : List Node) → Ok t → (xs : List Request) → Asked t xs → (s : State) → CountedIn h t s
     → CountedIn h t (serve t xs s)
 counted-serve h t ok xs a s c =
-    serve-in t ok (CountedIn h t) (λ k u i r. counted-define h t k u i r) (λ e u r. counted-write h t e u r) (λ x u r. counted-hold x u r) xs a s c
-  where
-    counted-hold : (x : Request) (u : State) → CountedIn h t u → CountedIn h t (hold x u)
-    counted-hold x u r = record { next = unfold hold in r .next; keys-in = unfold hold keys in r .keys-in; count = unfold hold keys in r .count }
+    serve-in t ok (CountedIn h t) (λ k u i r. counted-define h t k u i r) (λ e u r. counted-write h t e u r) (λ x u r. counted-hold h t x u r) xs a s c

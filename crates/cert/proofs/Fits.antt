@@ -1,19 +1,22 @@
 -- The definitions that the clauses of a right request look up are inside their nodes.
 use mathlib.Core.Path.{_≡_, refl, sym, subst}
 use mathlib.Core.Logic.{⊎-elim, dite}
-use mathlib.Core.List.{List, [], _++_, map, List·Memᴰ, List·Memᴰ·not-nil, List·Memᴰ·append-cases, List·Memᴰ·cases-cons, List·Memᴰ·eq-of-singleton, Memᴰ·of-map}
+use mathlib.Core.List.{List, [], List·Memᴰ, List·Memᴰ·not-nil, List·Memᴰ·eq-of-singleton, Memᴰ·of-map}
 use Prim.Native.Nat.{ℕ, zero, suc, _+_, _-_, _*_, _≤_, _<_}
 use native.Mathlib.Decide.{decLe}
 use native.Mathlib.Omega.{arith}
 use lib.ListN.{length}
 use Rattle.memo.proofs.Serve.{Falls}
-use Rattle.totdb.specs.Nodes.{Node, len, at, range, sideLen, sideLit, leaf, join}
+use Rattle.totdb.specs.Nodes.{Node, len, at, sideLen, sideLit, leaf, join}
 use Rattle.totdb.specs.declared.Side.{Side}
-use Rattle.cert.specs.Definitions.{Key, real, window-zero, window, pulls, Definition, stored, lacking, Direction, oneDef, if, only-if, axiom-of, nothing, realDef, windowDef, longDef, sideDef}
+use Rattle.cert.specs.Definitions.{Key, real, window-zero, window, pulls, Definition, stored, lacking, Direction, oneDef, if, only-if, axiom-of, nothing, realDef, windowDef, sideDef}
 use Rattle.cert.specs.Equal.{keyRank}
-use Rattle.cert.specs.Requests.{Request, nodeOf, request, needs, keyOf, Clause, looksOf, clausesOf, clausesAt, ifClause, onlyIfClause, splits}
-use Rattle.cert.proofs.Apart.{range-mem, Right, Sized, right-needs, sized-ok, Fit, splits-mem}
-use Rattle.cert.proofs.Rules.{In, needs-fall}
+use Rattle.cert.specs.Requests.{Request, nodeOf, request, needs, keyOf, Clause, looksOf, clausesOf, clausesAt, ifClause, onlyIfClause, splits, Right}
+use Rattle.cert.specs.Sized.{Sized, Fit}
+use Rattle.cert.proofs.Apart.{right-needs, sized-ok, splits-mem}
+use Rattle.cert.proofs.Keyed.{by-form}
+use Rattle.cert.proofs.Rules.{In, needs-fall, looks-cases}
+use Rattle.cert.proofs.Pulls.{pulls-mem}
 
 -- A key inside its node.
 unfoldable pub KeyFits : List Node → Key → Type 0
@@ -25,16 +28,8 @@ pulls-fit : (t : List Node) (k j : Key) → KeyFits t k → List·Memᴰ j (pull
 unfolding pulls KeyFits keyRank
 pulls-fit t (real n v) j g m = absurd (List·Memᴰ·not-nil m)
 pulls-fit t (window-zero n f k) j g m = absurd (List·Memᴰ·not-nil m)
-pulls-fit t (window n f k) j g m = ⊎-elim here there (List·Memᴰ·cases-cons m)
-  where
-    here : j ≡ window-zero n f k → KeyFits t j × (keyRank j < 1)
-    here e = rw e (g, omega arith)
-
-    there : List·Memᴰ j (map (λ (i : ℕ). real n (f + i)) (range 1 k)) → KeyFits t j × (keyRank j < 1)
-    there h =
-        let q = Memᴰ·of-map (λ (i : ℕ). real n (f + i)) (range 1 k) h in
-        let r = range-mem 1 k (q .0) (q .1) in
-        rw (← q .2) ((g .0, omega (arith, g .1, r)), omega arith)
+pulls-fit t (window n f k) j g m =
+    ⊎-elim (λ e. rw e (g, omega arith)) (λ q. rw (← q .3) ((g .0, omega (arith, g .1, q .2)), omega arith)) (pulls-mem n f k j m)
 
 pub key-falls : (t : List Node) → Falls pulls (KeyFits t) keyRank
 key-falls t = record { good = λ k j g m. pulls-fit t k j g m .0; lower = λ k j g m. pulls-fit t k j g m .1 }
@@ -78,36 +73,24 @@ module _ (t : List Node) (m n : ℕ) (there : n < length t) where
   realDef-fit (suc v) if h = one-fit t (real n (suc v)) 0 (there, h)
   realDef-fit (suc v) only-if h = or-fit t (decLe (suc v) m) (stored (real n (suc v)) 1) (one-fit t (real n (suc v)) 1 (there, h))
 
-  windowDef-fit : (f i : ℕ) (d : Direction) → f + m ≤ len (at t n) → 1 < m → AllFit t (windowDef n f m i d)
+  windowDef-fit : (f v : ℕ) (d : Direction) → f + m ≤ len (at t n) → 1 < m → AllFit t (windowDef n f m v d)
   unfolding windowDef keyOf KeyFits
   windowDef-fit f zero if h l = none-fit t lacking refl
   windowDef-fit f zero only-if h l = one-fit t (window n f m) 0 (there, h, l)
-  windowDef-fit f (suc i) if h l = one-fit t (window n f m) (2 * i + 1) (there, h, l)
-  windowDef-fit f (suc i) only-if h l =
-      or-fit t (decLe (suc i) m) (stored (window n f m) (2 * i + 2)) (one-fit t (window n f m) (2 * i + 2) (there, h, l))
-
-  longDef-fit : (f k i : ℕ) (d : Direction) → f + m ≤ len (at t n) → 1 < m → i ≤ m + 1 → AllFit t (longDef m n f k i d)
-  unfolding longDef
-  longDef-fit zero zero i d h l g = realDef-fit i d (omega arith)
-  longDef-fit zero (suc k) i d h l g = windowDef-fit zero i d h l
-  longDef-fit (suc f) k i d h l g = windowDef-fit (suc f) i d h l
+  windowDef-fit f (suc v) if h l = one-fit t (window n f m) (2 * (v - f) + 1) (there, h, l)
+  windowDef-fit f (suc v) only-if h l =
+      or-fit t (decLe (suc v) (f + m)) (stored (window n f m) (2 * (v - f) + 2)) (one-fit t (window n f m) (2 * (v - f) + 2) (there, h, l))
 
 sideDef-fit : (t : List Node) (s : Side) (i : ℕ) (d : Direction) → s .node < length t → s .offset + sideLen t s ≤ len (at t (s .node))
     → i ≤ sideLen t s + 1 → AllFit t (sideDef t s i d)
-unfolding sideDef
-sideDef-fit t s i d h g l = by (decLe (sideLen t s) 1)
-  where
-    by : (c : Dec (sideLen t s ≤ 1))
-        → AllFit t (dite c (λ _. oneDef (sideLit t s 1) i d) (λ _. longDef (sideLen t s) (s .node) (s .offset) (s .limit) i d))
-    by (yes p) = oneDef-fit t (sideLit t s 1) i d
-    by (no p) = longDef-fit t (sideLen t s) (s .node) h (s .offset) (s .limit) i d g (omega arith) l
+sideDef-fit t s i d h g l =
+    by-form (AllFit t) t s i d (λ _. oneDef-fit t (sideLit t s 1) i d)
+    (λ _ _ _. realDef-fit t (sideLen t s) (s .node) h i d (omega arith))
+    (λ p _ v _. windowDef-fit t (sideLen t s) (s .node) h (s .offset) v d g p)
 
 looks-fit : (t : List Node) (c : Clause) (k : Key) → AllFit t (c .left) → AllFit t (c .right) → AllFit t (c .this) → List·Memᴰ k (looksOf c)
     → KeyFits t k
-unfolding looksOf
-looks-fit t c k l r th i =
-    ⊎-elim (λ h. ⊎-elim (l k) (r k) (List·Memᴰ·append-cases (keyOf (c .left)) h)) (th k)
-    (List·Memᴰ·append-cases (keyOf (c .left) ++ keyOf (c .right)) i)
+looks-fit t c k l r th i = ⊎-elim (l k) (⊎-elim (r k) (th k)) (looks-cases c k i)
 
 pub looked-fit : (t : List Node) → Sized t → (x : Request) (c : Clause) (k : Key) → Right t x → List·Memᴰ c (clausesOf t x) → List·Memᴰ k (looksOf c)
     → KeyFits t k

@@ -2,65 +2,37 @@
 -- and a window's derivations to its definitions.
 use mathlib.Core.Path.{_≡_, refl, sym, _∙_, ap, subst}
 use mathlib.Core.Logic.{_≢_, dite, ⊎-elim}
-use mathlib.Core.List.{List, [], _∷_, _++_, map, flatMap, map-append, append-assoc, append-nil, List·Memᴰ, List·Memᴰ·head, List·Memᴰ·tail, List·Memᴰ·not-nil, List·Memᴰ·cases-cons, List·Memᴰ·append-cases, List·Memᴰ·eq-of-singleton, Memᴰ·map}
+use mathlib.Core.List.{List, [], _∷_, _++_, map, flatMap, map-append, append-assoc, append-nil, List·Memᴰ, List·Memᴰ·head, List·Memᴰ·tail, List·Memᴰ·not-nil, List·Memᴰ·cases-cons, List·Memᴰ·append-cases, List·Memᴰ·eq-of-singleton}
 use mathlib.Core.Option.{Option, none, some}
 use Prim.Native.Nat.{ℕ, zero, suc, _+_, _-_, _≤_, _<_}
 use native.Mathlib.Decide.{decLt}
 use native.Mathlib.Omega.{arith}
 use borrow.Author.Tests.{le-ltb}
-use lib.ListN.{length, getD, length-append, List·getD-append}
+use lib.ListN.{length, getD, List·getD-append}
 use lib.Seq.{getD-append-add}
 use Rattle.pb.specs.Rules.{evaluate}
 use Rattle.pb.specs.Sum.{Sum, normal, _≥_, keep, _·_, neg, Term, units, variable}
 use Rattle.pb.proofs.Normal.{Off, Apart}
 use Rattle.record.specs.Record.{Record, sum, derivation, clause, deletion, steps}
 use Rattle.record.specs.Steps.{Defined, written, derived, sumsAfter, stepSum}
+use Rattle.record.proofs.Steps.{sums-append, sums-grow, sums-length}
 use Rattle.totdb.specs.Nodes.{Node, len, leaves, output, range, join, leaf, at, outputs}
 use Rattle.totdb.specs.declared.Side.{Side}
 use Rattle.cert.specs.Definitions.{Key, definedBy, realRecords, realIf, realOnlyIf, atLeastZero, asWritten, real, outputsBefore, outputsAfter, total, ifPart, windowIfSum, onlyIfPart, windowOnlyIfSum, windowIf, windowOnlyIf, pulls, window, keyRecords, window-zero}
 use Rattle.cert.specs.Equal.{key-dec}
 use Rattle.cert.specs.State.{Stored, fromIn, State, keys, stepIn, define, Head}
-use Rattle.cert.proofs.Apart.{range-has, range-mem}
+use Rattle.cert.proofs.Apart.{range-mem}
 use Rattle.cert.proofs.Counts.{steps-append}
 use Rattle.cert.proofs.Distinct.{Different, different-apart, outputs-different, output-inj, Distinct, off-units, own-apart}
 use Rattle.cert.proofs.Fits.{KeyFits}
 use Rattle.cert.proofs.Totalizer.{real-if, real-only-if}
+use Rattle.cert.proofs.Pulls.{pulls-real}
 use Rattle.cert.proofs.WindowDerivations.{range-around, window-if-evaluates, window-only-if-evaluates}
 
 -- The sum of a definition.
 unfoldable pub sumOf : Defined → Option Sum
 sumOf (written w ts b) = some (normal (ts ≥ b))
 sumOf (derived s) = s
-
--- ---- sums after more records
-
-pub sums-append : (first : ℕ) (known : List (Option Sum)) (rs qs : List Record)
-    → sumsAfter first known (rs ++ qs) ≡ sumsAfter first (sumsAfter first known rs) qs
-unfolding sumsAfter
-sums-append first known [] qs = refl
-sums-append first known (sum w ts b ∷ rs) qs = sums-append first _ rs qs
-sums-append first known (derivation ks ∷ rs) qs = sums-append first _ rs qs
-sums-append first known (clause s ls ∷ rs) qs = sums-append first known rs qs
-sums-append first known (deletion ss ∷ rs) qs = sums-append first known rs qs
-
-pub sums-grow : (first : ℕ) (known : List (Option Sum)) (rs : List Record) → (ext : List (Option Sum)) × (sumsAfter first known rs ≡ known ++ ext)
-unfolding sumsAfter
-sums-grow first known [] = ([], sym (append-nil known))
-sums-grow first known (sum w ts b ∷ rs) = let k = sums-grow first (known ++ (some (normal (ts ≥ b)) ∷ [])) rs in
-    ((some (normal (ts ≥ b)) ∷ []) ++ k .0, k .1 ∙ append-assoc known (some (normal (ts ≥ b)) ∷ []) (k .0))
-sums-grow first known (derivation ks ∷ rs) = let k = sums-grow first (known ++ (evaluate (stepSum first known) ks ∷ [])) rs in
-    ((evaluate (stepSum first known) ks ∷ []) ++ k .0, k .1 ∙ append-assoc known (evaluate (stepSum first known) ks ∷ []) (k .0))
-sums-grow first known (clause s ls ∷ rs) = sums-grow first known rs
-sums-grow first known (deletion ss ∷ rs) = sums-grow first known rs
-
-pub sums-length : (first : ℕ) (known : List (Option Sum)) (rs : List Record) → length (sumsAfter first known rs) ≡ length known + steps rs
-unfolding sumsAfter steps
-sums-length first known [] = omega arith
-sums-length first known (sum w ts b ∷ rs) = sums-length first (known ++ (some (normal (ts ≥ b)) ∷ [])) rs ∙ rw length-append (omega arith)
-sums-length first known (derivation ks ∷ rs) = sums-length first (known ++ (evaluate (stepSum first known) ks ∷ [])) rs
-    ∙ rw length-append (omega arith)
-sums-length first known (clause s ls ∷ rs) = sums-length first known rs
-sums-length first known (deletion ss ∷ rs) = sums-length first known rs
 
 -- ---- a part of the sums known
 
@@ -277,12 +249,7 @@ module _ (h : Head) (t : List Node) (d : Distinct t) (s : State) (k : KnownIn h 
 
   pulled : (n f m : ℕ) → ((j : Key) → List·Memᴰ j (pulls (window n f m)) → List·Memᴰ j (keys s)) → (v : ℕ) → f < v → v ≤ f + m
       → List·Memᴰ (real n v) (keys s)
-  unfolding pulls
-  pulled n f m b v x y =
-      let i : f + (v - f) ≡ v = omega arith in
-      b (real n v) (List·Memᴰ·tail
-      (subst (λ (w : ℕ). List·Memᴰ (real n w) (map (λ (i : ℕ). real n (f + i)) (range 1 m))) i
-      (Memᴰ·map (λ (i : ℕ). real n (f + i)) (range-has 1 m (v - f) (omega arith) (omega arith)))))
+  pulled n f m b v x y = b (real n v) (pulls-real n f m v x y)
 
   pub key-sums : (j : Key) → KeyFits t j → ((i : Key) → List·Memᴰ i (pulls j) → List·Memᴰ i (keys s))
       → sumsAfter (h .step) (knownOf h s) (keyRecords (stepIn (s .stored)) t j) ≡ knownOf h s ++ map sumOf (definedBy t j)

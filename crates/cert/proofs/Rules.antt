@@ -1,6 +1,6 @@
 -- The rules of requests and definitions: needs are at lower nodes, and no later node changes what a request needs, looks up and writes.
 use mathlib.Core.Path.{_≡_, refl, sym, _∙_, ap, subst}
-use mathlib.Core.Logic.{⊎-elim, dite}
+use mathlib.Core.Logic.{_⊎_, inl, inr, ⊎-elim, dite}
 use mathlib.Core.List.{List, [], _++_, map, flatMap, List·Memᴰ, List·Memᴰ·not-nil, List·Memᴰ·append-cases, List·Memᴰ·cases-cons, List·Memᴰ·eq-of-singleton, Memᴰ·of-map}
 use Prim.Native.Nat.{ℕ, zero, suc, _+_, _-_, _*_, _≤_, _<_}
 use native.Mathlib.Decide.{decLe}
@@ -11,9 +11,11 @@ use Rattle.memo.proofs.Lists.{map-agree, of-flatMap}
 use Rattle.memo.proofs.Serve.{Falls}
 use Rattle.totdb.specs.Nodes.{Node, leaf, join, at, sideLen, sideLit, sideOutputs, outputs, range, sideLeaves, plainOr, leaves, len}
 use Rattle.totdb.specs.declared.Side.{Side}
-use Rattle.cert.specs.Definitions.{Key, real, window-zero, window, pulls, Direction, Definition, stored, oneDef, if, only-if, lacking, realDef, windowDef, longDef, sideDef}
+use Rattle.cert.specs.Counted.{KeyIn, keyNode}
+use Rattle.cert.specs.Definitions.{Key, real, window-zero, window, pulls, Direction, Definition, stored, oneDef, if, only-if, lacking, realDef, windowDef, sideDef, windowReals}
 use Rattle.cert.specs.Equal.{keyRank}
 use Rattle.cert.specs.Requests.{Request, clausesOf, Clause, looksOf, nodeOf, needs, needsAt, below, request, named, keyOf, clausesAt, ifClause, onlyIfClause, splits, negPart, posPart, literalsOf, lookups}
+use Rattle.cert.proofs.Keyed.{by-form}
 
 -- A table is well made where the sides of each join are at lower nodes.
 unfoldable pub Below : ℕ → Node → Type 0
@@ -25,14 +27,6 @@ Ok t = (n : ℕ) → n < length t → Below n (at t n)
 
 unfoldable pub In : List Node → Request → Type 0
 In t x = nodeOf x < length t
-
-unfoldable pub keyNode : Key → ℕ
-keyNode (real n v) = n
-keyNode (window-zero n f k) = n
-keyNode (window n f k) = n
-
-unfoldable pub KeyIn : List Node → Key → Type 0
-KeyIn t k = keyNode k < length t
 
 -- The counters, as `Grow` asks for them; the sums are left out.
 abbrev pub counters : World Node Request Key (List ℕ) ℕ
@@ -81,16 +75,23 @@ ok-less : (t u : List Node) → Ok (t ++ u) → Ok t
 unfolding Ok
 ok-less t u ok n h = rw (at-more t u n h) (ok n (omega (arith, length-append t u)))
 
+-- Those of the left side, and those of the right.
+pub needs-cases : (t : List Node) (ls : List ℕ) (o : ℕ) (l r : Side) (v : ℕ) (d : Direction) (y : Request)
+    → List·Memᴰ y (needsAt t (join ls o l r) v d)
+    → List·Memᴰ y (below d l (named d v (sideLen t l) (sideLen t r))) ⊎ List·Memᴰ y (below d r (named d v (sideLen t r) (sideLen t l)))
+unfolding needsAt
+needs-cases t ls o l r v d y m = List·Memᴰ·append-cases (below d l (named d v (sideLen t l) (sideLen t r))) m
+
+below-node : (d : Direction) (s : Side) (is : List ℕ) (y : Request) → List·Memᴰ y (below d s is) → nodeOf y ≡ s .node
+unfolding below nodeOf
+below-node d s is y m = let i = Memᴰ·of-map (λ (i : ℕ). request (s .node) (s .offset + i) d) is m in rw (← i .2)
+
 needs-under : (t : List Node) (a : Node) (v : ℕ) (d : Direction) (k : ℕ) (y : Request) → Below k a → List·Memᴰ y (needsAt t a v d) → nodeOf y < k
-unfolding needsAt Below below nodeOf
+unfolding needsAt Below
 needs-under t (leaf a) v d k y b m = absurd (List·Memᴰ·not-nil m)
 needs-under t (join ls o l r) v d k y b m =
-    ⊎-elim
-    (λ h. let i = Memᴰ·of-map (λ (i : ℕ). request (l .node) (l .offset + i) d) (named d v (sideLen t l) (sideLen t r)) h in
-    subst (λ (z : Request). nodeOf z < k) (i .2) (b .0))
-    (λ h. let i = Memᴰ·of-map (λ (i : ℕ). request (r .node) (r .offset + i) d) (named d v (sideLen t r) (sideLen t l)) h in
-    subst (λ (z : Request). nodeOf z < k) (i .2) (b .1))
-    (List·Memᴰ·append-cases (below d l (named d v (sideLen t l) (sideLen t r))) m)
+    ⊎-elim (λ h. rw (below-node d l (named d v (sideLen t l) (sideLen t r)) y h) (b .0))
+    (λ h. rw (below-node d r (named d v (sideLen t r) (sideLen t l)) y h) (b .1)) (needs-cases t ls o l r v d y m)
 
 needs-more : (t u : List Node) → Ok t → (x : Request) → In t x → needs t x ≡ needs (t ++ u) x
 unfolding needs In nodeOf needsAt Below
@@ -129,34 +130,30 @@ realDef-node m n zero only-if = one-node n (real n 0) 0 refl
 realDef-node m n (suc v) if = one-node n (real n (suc v)) 0 refl
 realDef-node m n (suc v) only-if = or-lacking n (decLe (suc v) m) (stored (real n (suc v)) 1) (one-node n (real n (suc v)) 1 refl)
 
-windowDef-node : (n f m i : ℕ) (d : Direction) → AtNode n (windowDef n f m i d)
+windowDef-node : (n f m v : ℕ) (d : Direction) → AtNode n (windowDef n f m v d)
 unfolding windowDef keyNode keyOf
 windowDef-node n f m zero if = λ k m. absurd (List·Memᴰ·not-nil m)
 windowDef-node n f m zero only-if = one-node n (window n f m) 0 refl
-windowDef-node n f m (suc i) if = one-node n (window n f m) (2 * i + 1) refl
-windowDef-node n f m (suc i) only-if = or-lacking n (decLe (suc i) m) (stored (window n f m) (2 * i + 2)) (one-node n (window n f m) (2 * i + 2) refl)
-
-longDef-node : (m n f k i : ℕ) (d : Direction) → AtNode n (longDef m n f k i d)
-unfolding longDef
-longDef-node m n zero zero i d = realDef-node m n i d
-longDef-node m n zero (suc k) i d = windowDef-node n zero m i d
-longDef-node m n (suc f) k i d = windowDef-node n (suc f) m i d
+windowDef-node n f m (suc v) if = one-node n (window n f m) (2 * (v - f) + 1) refl
+windowDef-node n f m (suc v) only-if =
+    or-lacking n (decLe (suc v) (f + m)) (stored (window n f m) (2 * (v - f) + 2)) (one-node n (window n f m) (2 * (v - f) + 2) refl)
 
 sideDef-node : (t : List Node) (s : Side) (i : ℕ) (d : Direction) → AtNode (s .node) (sideDef t s i d)
-unfolding sideDef
-sideDef-node t s i d = by (decLe (sideLen t s) 1)
-  where
-    by : (c : Dec (sideLen t s ≤ 1))
-        → AtNode (s .node) (dite c (λ _. oneDef (sideLit t s 1) i d) (λ _. longDef (sideLen t s) (s .node) (s .offset) (s .limit) i d))
-    by (yes p) = oneDef-node (s .node) (sideLit t s 1) i d
-    by (no p) = longDef-node (sideLen t s) (s .node) (s .offset) (s .limit) i d
+sideDef-node t s i d =
+    by-form (AtNode (s .node)) t s i d (λ _. oneDef-node (s .node) (sideLit t s 1) i d) (λ _ _ _. realDef-node (sideLen t s) (s .node) i d)
+    (λ _ _ v _. windowDef-node (s .node) (s .offset) (sideLen t s) v d)
+
+pub looks-cases : (c : Clause) (k : Key) → List·Memᴰ k (looksOf c)
+    → List·Memᴰ k (keyOf (c .left)) ⊎ List·Memᴰ k (keyOf (c .right)) ⊎ List·Memᴰ k (keyOf (c .this))
+unfolding looksOf
+looks-cases c k i =
+    ⊎-elim (λ h. ⊎-elim inl (λ g. inr (inl g)) (List·Memᴰ·append-cases (keyOf (c .left)) h)) (λ h. inr (inr h))
+    (List·Memᴰ·append-cases (keyOf (c .left) ++ keyOf (c .right)) i)
 
 looks-node : (c : Clause) (a b n m : ℕ) (k : Key) → AtNode a (c .left) → AtNode b (c .right) → AtNode n (c .this) → a < m → b < m → n < m
     → List·Memᴰ k (looksOf c) → keyNode k < m
-unfolding looksOf
 looks-node c a b n m k l r th ha hb hn i =
-    ⊎-elim (λ h. ⊎-elim (λ g. rw (l k g) ha) (λ g. rw (r k g) hb) (List·Memᴰ·append-cases (keyOf (c .left)) h)) (λ h. rw (th k h) hn)
-    (List·Memᴰ·append-cases (keyOf (c .left) ++ keyOf (c .right)) i)
+    ⊎-elim (λ h. rw (l k h) ha) (⊎-elim (λ h. rw (r k h) hb) (λ h. rw (th k h) hn)) (looks-cases c k i)
 
 lookups-in : (t : List Node) → Ok t → (x : Request) (k : Key) → In t x → List·Memᴰ k (lookups t x) → KeyIn t k
 unfolding lookups In KeyIn nodeOf clausesOf clausesAt Below ifClause onlyIfClause
@@ -223,17 +220,23 @@ clauses-more t u ok (request n v d) i = rw (← at-more t u n i) (go (at t n) d 
         rw (← sideLen-more t u l (b .0), ← sideLen-more t u r (b .1))
         (map-agree (splits (v - 1) (sideLen t l) (sideLen t r)) (λ a h. onlyIfClause-more t u n (join ls o l r) l r v a (b .0) (b .1)))
 
+pub pulls-cases : (n f m : ℕ) (j : Key) → List·Memᴰ j (pulls (window n f m)) → (j ≡ window-zero n f m) ⊎ List·Memᴰ j (windowReals n f m)
+unfolding pulls
+pulls-cases n f m j h = List·Memᴰ·cases-cons h
+
+reals-node : (n f s k : ℕ) (j : Key) → List·Memᴰ j (map (λ (i : ℕ). real n (f + i)) (range s k)) → (keyNode j ≡ n) × (keyRank j ≡ 0)
+unfolding keyNode keyRank
+reals-node n f s k j h = let q = Memᴰ·of-map (λ (i : ℕ). real n (f + i)) (range s k) h in rw (← q .2) (refl, refl)
+
+window-reals-node : (n f m : ℕ) (j : Key) → List·Memᴰ j (windowReals n f m) → (keyNode j ≡ n) × (keyRank j ≡ 0)
+window-reals-node n f m j h = reals-node n f _ _ j h
+
 pulls-in : (t : List Node) (k j : Key) → KeyIn t k → List·Memᴰ j (pulls k) → (keyNode j < length t) × (keyRank j < keyRank k)
 unfolding pulls KeyIn keyNode keyRank
 pulls-in t (real n v) j i m = absurd (List·Memᴰ·not-nil m)
 pulls-in t (window-zero n f k) j i m = absurd (List·Memᴰ·not-nil m)
-pulls-in t (window n f k) j i m = ⊎-elim here there (List·Memᴰ·cases-cons m)
-  where
-    here : j ≡ window-zero n f k → (keyNode j < length t) × (keyRank j < 1)
-    here e = rw e (i, omega arith)
-
-    there : List·Memᴰ j (map (λ (i : ℕ). real n (f + i)) (range 1 k)) → (keyNode j < length t) × (keyRank j < 1)
-    there h = let q = Memᴰ·of-map (λ (i : ℕ). real n (f + i)) (range 1 k) h in rw (← q .2) (i, omega arith)
+pulls-in t (window n f k) j i m =
+    ⊎-elim (λ e. rw e (i, omega arith)) (λ h. let q = window-reals-node n f k j h in rw (q .0, q .1) (i, omega arith)) (pulls-cases n f k j m)
 
 needs-in : (t : List Node) → Ok t → (x y : Request) → In t x → List·Memᴰ y (needs t x) → In t y
 unfolding needs In

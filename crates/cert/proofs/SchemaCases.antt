@@ -8,7 +8,7 @@ use Rattle.totdb.specs.Nodes.{Node, leaf, join, at, leaves, len, output, range,
 use Rattle.totdb.specs.declared.Side.{Side}
 use Rattle.cert.specs.Definitions.{Direction, if, only-if}
 use Rattle.cert.specs.Requests.{request, splits, negPart, posPart, ifClause, onlyIfClause, clausesAt, clausesOf, literalsOf}
-use Rattle.cert.specs.Totalizer.{literalAt, complement, simplify, C1, C2, schema, ofSide, ofNode, totalizerAt, totalizer}
+use Rattle.cert.specs.Totalizer.{literalAt, opposite, complement, simplify, C1, C2, pairs, schema, numberOf, literalOf, totalizerAt, totalizer}
 
 -- A side with no limit.
 abbrev pub side : ℕ → ℕ → Side
@@ -59,6 +59,6 @@ cases =
 pub worked : map (λ (c : Case). c .got) cases ≡ map (λ (c : Case). c .want) cases
 unfolding
     cases two three at leaves len output limited range sideLen sideLit neg flatMap decLe ℕ-discrete
-    totalizer totalizerAt schema simplify C1 C2 complement ofSide ofNode literalAt literalsOf clausesOf clausesAt ifClause onlyIfClause splits negPart
+    totalizer totalizerAt literalOf numberOf schema pairs simplify C1 C2 complement opposite literalAt literalsOf clausesOf clausesAt ifClause onlyIfClause splits negPart
     posPart
 worked = refl

@@ -14,11 +14,12 @@ use Rattle.memo.proofs.Memo.{Log, Works, batch-kept}
 use Rattle.memo.proofs.Serve.{Serves, serves-nil, serves-then, Falls}
 use Rattle.record.specs.Record.{Record, clauses, sum, derivation, clause, deletion}
 use Rattle.totdb.specs.Nodes.{Node, len, leaves, at, range, outputs}
+use Rattle.cert.specs.Counted.{KeyIn}
 use Rattle.cert.specs.Definitions.{realRecords, atLeastZero, realIf, realOnlyIf, Key, windowIf, windowOnlyIf, keyRecords, real, window-zero, window, pulls}
 use Rattle.cert.specs.Equal.{key-dec, keyRank, request-dec}
 use Rattle.cert.specs.Requests.{Clause, Request, looksOf, clausesOf, nodeOf, needs, literalsOf, lookups}
 use Rattle.cert.specs.State.{State, keys, define, Stored, stepIn, write, lookUp, writeClause, writeRequest, hold, serve}
-use Rattle.cert.proofs.Rules.{KeyIn, pulls-fall, Ok, In, counters-grow, counters, needs-fall}
+use Rattle.cert.proofs.Rules.{pulls-fall, Ok, In, counters-grow, counters, needs-fall}
 
 -- ---- the acts, as far as crate `memo` looks at them
 

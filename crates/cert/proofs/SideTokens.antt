@@ -2,7 +2,7 @@
 use mathlib.Core.Path.{_≡_, refl, sym, _∙_, ap, subst}
 use mathlib.Core.Logic.{dite}
 use mathlib.Core.List.{List, [], _∷_, List·Memᴰ, List·Memᴰ·head}
-use Prim.Native.Nat.{ℕ, zero, suc, _+_, _*_, _≤_, _<_}
+use Prim.Native.Nat.{ℕ, zero, suc, _+_, _≤_, _<_}
 use native.Mathlib.Decide.{decLe}
 use native.Mathlib.Omega.{arith}
 use lib.ListN.{length}
@@ -11,13 +11,16 @@ use Rattle.pb.proofs.Normal.{Off}
 use Rattle.record.specs.Steps.{stepSum}
 use Rattle.totdb.specs.Nodes.{Node, len, join, leaves, at, leaf, sideLit, range, output, sideLen, sideLeaves, plainOr, limited, sideOutputs, outputs}
 use Rattle.totdb.specs.declared.Side.{Side}
-use Rattle.cert.specs.Definitions.{real, realDef, only-if, stored, lacking, if, window, windowDef, Key, pulls, window-zero, longDef, sideDef, oneDef}
+use Rattle.cert.specs.Definitions.{real, realDef, only-if, stored, if, window, windowDef, Key, pulls, window-zero, Definition, sideDef, oneDef}
 use Rattle.cert.specs.Requests.{keyOf, defTokens}
+use Rattle.cert.specs.Sized.{Fit, Sized}
 use Rattle.cert.specs.State.{State, keys, stepIn, Head}
-use Rattle.cert.proofs.Apart.{Fit, Sized}
 use Rattle.cert.proofs.ClauseDerivations.{Stands}
 use Rattle.cert.proofs.Distinct.{Distinct, off-units, own-apart}
+use Rattle.cert.proofs.Keyed.{KeyOf, by-form}
 use Rattle.cert.proofs.Known.{KnownIn, long-join, knownOf}
+use Rattle.cert.proofs.Lookups.{real-only-key, real-if-key, window-only-key, window-if-key}
+use Rattle.cert.proofs.Pulls.{pulls-zero}
 use Rattle.cert.proofs.Sides.{real-only-stands, real-if-stands, window-only-stands, window-if-stands, one-only, one-if}
 use Rattle.cert.proofs.Totalizer.{real-only-if, real-if, leaf-zero, leaf-two}
 
@@ -39,32 +42,16 @@ one-output t c = refl
 
 -- The keys of a definition.
 real-key-only : (m n v : ℕ) → v ≤ m → List·Memᴰ (real n v) (keyOf (realDef m n v only-if))
-unfolding realDef keyOf
-real-key-only m n zero h = List·Memᴰ·head refl
-real-key-only m n (suc v) h = by (decLe (suc v) m)
-  where
-    by : (c : Dec (suc v ≤ m)) → List·Memᴰ (real n (suc v)) (keyOf (dite c (λ _. stored (real n (suc v)) 1) (λ _. lacking)))
-    by (yes e) = List·Memᴰ·head refl
-    by (no e) = absurd (e h)
+real-key-only m n v h = rw (real-only-key m n v h) (List·Memᴰ·head refl)
 
 real-key-if : (m n v : ℕ) → 1 ≤ v → List·Memᴰ (real n v) (keyOf (realDef m n v if))
-unfolding realDef keyOf
-real-key-if m n zero h = absurd (omega arith)
-real-key-if m n (suc v) h = List·Memᴰ·head refl
+real-key-if m n v h = rw (real-if-key m n v h) (List·Memᴰ·head refl)
 
-window-key-only : (n f m i : ℕ) → i ≤ m → List·Memᴰ (window n f m) (keyOf (windowDef n f m i only-if))
-unfolding windowDef keyOf
-window-key-only n f m zero h = List·Memᴰ·head refl
-window-key-only n f m (suc i) h = by (decLe (suc i) m)
-  where
-    by : (c : Dec (suc i ≤ m)) → List·Memᴰ (window n f m) (keyOf (dite c (λ _. stored (window n f m) (2 * i + 2)) (λ _. lacking)))
-    by (yes e) = List·Memᴰ·head refl
-    by (no e) = absurd (e h)
+window-key-only : (n f m i v : ℕ) → KeyOf f i v → i ≤ m → List·Memᴰ (window n f m) (keyOf (windowDef n f m v only-if))
+window-key-only n f m i v k h = rw (window-only-key n f m i v k h) (List·Memᴰ·head refl)
 
-window-key-if : (n f m i : ℕ) → 1 ≤ i → List·Memᴰ (window n f m) (keyOf (windowDef n f m i if))
-unfolding windowDef keyOf
-window-key-if n f m zero h = absurd (omega arith)
-window-key-if n f m (suc i) h = List·Memᴰ·head refl
+window-key-if : (n f m i v : ℕ) → KeyOf f i v → 1 ≤ i → List·Memᴰ (window n f m) (keyOf (windowDef n f m v if))
+window-key-if n f m i v k h = rw (window-if-key n f m i v k h) (List·Memᴰ·head refl)
 
 module _ (h : Head) (t : List Node) (sz : Sized t) (d : Distinct t) (s : State) (k : KnownIn h t s)
     (closed : (i j : Key) → List·Memᴰ i (keys s) → List·Memᴰ j (pulls i) → List·Memᴰ j (keys s)) where
@@ -75,7 +62,7 @@ module _ (h : Head) (t : List Node) (sz : Sized t) (d : Distinct t) (s : State) 
       off-units (variable (output (at t n) v)) (leaves (at t n)) (λ l i e. own-apart t d n l v (j .0) (j .1) (j .2) (j .3) hn (j .4) i a b (sym e))
 
   zero-stored : (n f m : ℕ) → List·Memᴰ (window n f m) (keys s) → List·Memᴰ (window-zero n f m) (keys s)
-  zero-stored n f m i = closed (window n f m) (window-zero n f m) i (unfold pulls in List·Memᴰ·head refl)
+  zero-stored n f m i = closed (window n f m) (window-zero n f m) i (pulls-zero n f m)
 
   module _ (c : Side) (there : c .node < length t) (fits : c .offset + sideLen t c ≤ len (at t (c .node))) (some-side : 1 ≤ sideLen t c) where
     -- the literals handed on, by the form of the side
@@ -131,108 +118,60 @@ module _ (h : Head) (t : List Node) (sz : Sized t) (d : Distinct t) (s : State) 
           (rw (p .0, plain-long e g i)
           (real-if-stands h t s k (c .node) (d .within (c .node) there) (node-off (c .node) there (omega arith)) i a (omega (arith, p .1)) m))
 
-      window-only : 0 < c .offset + c .limit → (i : ℕ) → i ≤ sideLen t c → List·Memᴰ (window (c .node) (c .offset) (sideLen t c)) (keys s)
-          → Stands (stepSum (h .step) (knownOf h s)) (defTokens (stepIn (s .stored)) (windowDef (c .node) (c .offset) (sideLen t c) i only-if))
+      window-only : 0 < c .offset + c .limit → (i v : ℕ) → KeyOf (c .offset) i v → i ≤ sideLen t c
+          → List·Memᴰ (window (c .node) (c .offset) (sideLen t c)) (keys s)
+          → Stands (stepSum (h .step) (knownOf h s)) (defTokens (stepIn (s .stored)) (windowDef (c .node) (c .offset) (sideLen t c) v only-if))
           (real-only-if (sideLeaves t c) (sideLit t c i) i)
-      window-only g i l m =
+      window-only g i v q l m =
           subst (λ (ls : List ℕ). Stands (stepSum (h .step) (knownOf h s))
-          (defTokens (stepIn (s .stored)) (windowDef (c .node) (c .offset) (sideLen t c) i only-if)) (real-only-if ls (sideLit t c i) i))
+          (defTokens (stepIn (s .stored)) (windowDef (c .node) (c .offset) (sideLen t c) v only-if)) (real-only-if ls (sideLit t c i) i))
           (sym (window-leaves g))
           (unfold sideLit in window-only-stands h t s k (c .node) (c .offset) (sideLen t c) fits m
-          (zero-stored (c .node) (c .offset) (sideLen t c) m) i l)
+          (zero-stored (c .node) (c .offset) (sideLen t c) m) i v q l)
 
-      window-if : 0 < c .offset + c .limit → (i : ℕ) → 1 ≤ i → i ≤ sideLen t c + 1 → List·Memᴰ (window (c .node) (c .offset) (sideLen t c)) (keys s)
-          → Stands (stepSum (h .step) (knownOf h s)) (defTokens (stepIn (s .stored)) (windowDef (c .node) (c .offset) (sideLen t c) i if))
+      window-if : 0 < c .offset + c .limit → (i v : ℕ) → KeyOf (c .offset) i v → 1 ≤ i → i ≤ sideLen t c + 1
+          → List·Memᴰ (window (c .node) (c .offset) (sideLen t c)) (keys s)
+          → Stands (stepSum (h .step) (knownOf h s)) (defTokens (stepIn (s .stored)) (windowDef (c .node) (c .offset) (sideLen t c) v if))
           (real-if (sideLeaves t c) (sideLit t c i) i)
-      window-if g i a l m =
+      window-if g i v q a l m =
           subst (λ (ls : List ℕ). Stands (stepSum (h .step) (knownOf h s))
-          (defTokens (stepIn (s .stored)) (windowDef (c .node) (c .offset) (sideLen t c) i if)) (real-if ls (sideLit t c i) i))
+          (defTokens (stepIn (s .stored)) (windowDef (c .node) (c .offset) (sideLen t c) v if)) (real-if ls (sideLit t c i) i))
           (sym (window-leaves g))
           (unfold sideLit in window-if-stands h t s k (c .node) (c .offset) (sideLen t c) fits m
-          (zero-stored (c .node) (c .offset) (sideLen t c) m) i a l)
-
-      long-only : (i : ℕ) → i ≤ sideLen t c → (f j : ℕ) → c .offset ≡ f → c .limit ≡ j
-          → ((q : Key) → List·Memᴰ q (keyOf (longDef (sideLen t c) (c .node) f j i only-if)) → List·Memᴰ q (keys s))
-          → Stands (stepSum (h .step) (knownOf h s)) (defTokens (stepIn (s .stored)) (longDef (sideLen t c) (c .node) f j i only-if))
-          (real-only-if (sideLeaves t c) (sideLit t c i) i)
-      unfolding longDef
-      long-only i l zero zero e g has = plain-only e g i l (has (real (c .node) i) (real-key-only (sideLen t c) (c .node) i l))
-      long-only i l zero (suc j) e g has =
-          subst (λ (f : ℕ). Stands (stepSum (h .step) (knownOf h s)) (defTokens (stepIn (s .stored)) (windowDef (c .node) f (sideLen t c) i only-if))
-          (real-only-if (sideLeaves t c) (sideLit t c i) i)) e
-          (window-only (omega arith) i l
-          (subst (λ (f : ℕ). List·Memᴰ (window (c .node) f (sideLen t c)) (keys s)) (sym e)
-          (has (window (c .node) zero (sideLen t c)) (window-key-only (c .node) zero (sideLen t c) i l))))
-      long-only i l (suc f) j e g has =
-          subst (λ (f : ℕ). Stands (stepSum (h .step) (knownOf h s)) (defTokens (stepIn (s .stored)) (windowDef (c .node) f (sideLen t c) i only-if))
-          (real-only-if (sideLeaves t c) (sideLit t c i) i)) e
-          (window-only (omega arith) i l
-          (subst (λ (f : ℕ). List·Memᴰ (window (c .node) f (sideLen t c)) (keys s)) (sym e)
-          (has (window (c .node) (suc f) (sideLen t c)) (window-key-only (c .node) (suc f) (sideLen t c) i l))))
-
-      long-if : (i : ℕ) → 1 ≤ i → i ≤ sideLen t c + 1 → (f j : ℕ) → c .offset ≡ f → c .limit ≡ j
-          → ((q : Key) → List·Memᴰ q (keyOf (longDef (sideLen t c) (c .node) f j i if)) → List·Memᴰ q (keys s))
-          → Stands (stepSum (h .step) (knownOf h s)) (defTokens (stepIn (s .stored)) (longDef (sideLen t c) (c .node) f j i if))
-          (real-if (sideLeaves t c) (sideLit t c i) i)
-      unfolding longDef
-      long-if i a l zero zero e g has = plain-if e g i a l (has (real (c .node) i) (real-key-if (sideLen t c) (c .node) i a))
-      long-if i a l zero (suc j) e g has =
-          subst (λ (f : ℕ). Stands (stepSum (h .step) (knownOf h s)) (defTokens (stepIn (s .stored)) (windowDef (c .node) f (sideLen t c) i if))
-          (real-if (sideLeaves t c) (sideLit t c i) i)) e
-          (window-if (omega arith) i a l
-          (subst (λ (f : ℕ). List·Memᴰ (window (c .node) f (sideLen t c)) (keys s)) (sym e)
-          (has (window (c .node) zero (sideLen t c)) (window-key-if (c .node) zero (sideLen t c) i a))))
-      long-if i a l (suc f) j e g has =
-          subst (λ (f : ℕ). Stands (stepSum (h .step) (knownOf h s)) (defTokens (stepIn (s .stored)) (windowDef (c .node) f (sideLen t c) i if))
-          (real-if (sideLeaves t c) (sideLit t c i) i)) e
-          (window-if (omega arith) i a l
-          (subst (λ (f : ℕ). List·Memᴰ (window (c .node) f (sideLen t c)) (keys s)) (sym e)
-          (has (window (c .node) (suc f) (sideLen t c)) (window-key-if (c .node) (suc f) (sideLen t c) i a))))
+          (zero-stored (c .node) (c .offset) (sideLen t c) m) i v q a l)
 
     pub side-only : (i : ℕ) → i ≤ sideLen t c → ((j : Key) → List·Memᴰ j (keyOf (sideDef t c i only-if)) → List·Memᴰ j (keys s))
         → Stands (stepSum (h .step) (knownOf h s)) (defTokens (stepIn (s .stored)) (sideDef t c i only-if))
         (real-only-if (sideLeaves t c) (sideLit t c i) i)
-    unfolding sideDef
-    side-only i l has = by (decLe (sideLen t c) 1) has
+    side-only i l =
+        by-form (λ (e : Definition). ((j : Key) → List·Memᴰ j (keyOf e) → List·Memᴰ j (keys s))
+        → Stands (stepSum (h .step) (knownOf h s)) (defTokens (stepIn (s .stored)) e) (real-only-if (sideLeaves t c) (sideLit t c i) i)) t c i only-if
+        (λ p has. rw (single p)
+        (subst (Stands (stepSum (h .step) (knownOf h s)) (defTokens (stepIn (s .stored)) (oneDef (sideLit t c 1) i only-if)))
+        (one i (omega arith)) (one-only (stepIn (s .stored)) (sideLit t c 1) i (omega arith))))
+        (λ p e g has. plain-only p e g i l (has (real (c .node) i) (real-key-only (sideLen t c) (c .node) i l)))
+        (λ p g v q has. window-only p g i v q l
+        (has (window (c .node) (c .offset) (sideLen t c)) (window-key-only (c .node) (c .offset) (sideLen t c) i v q l)))
       where
         one : (i : ℕ) → i ≤ 1 → real-only-if (sideLit t c 1 ∷ []) (sideLit t c 1) i ≡ real-only-if (sideLit t c 1 ∷ []) (sideLit t c i) i
         one zero g = leaf-zero (sideLit t c 1) (sideLit t c 1) ∙ sym (leaf-zero (sideLit t c 1) (sideLit t c 0))
         one (suc zero) g = refl
         one (suc (suc i)) g = absurd (omega arith)
 
-        by : (q : Dec (sideLen t c ≤ 1))
-            → ((j : Key) → List·Memᴰ j
-            (keyOf (dite q (λ _. oneDef (sideLit t c 1) i only-if) (λ _. longDef (sideLen t c) (c .node) (c .offset) (c .limit) i only-if)))
-            → List·Memᴰ j (keys s))
-            → Stands (stepSum (h .step) (knownOf h s))
-            (defTokens (stepIn (s .stored))
-            (dite q (λ _. oneDef (sideLit t c 1) i only-if) (λ _. longDef (sideLen t c) (c .node) (c .offset) (c .limit) i only-if)))
-            (real-only-if (sideLeaves t c) (sideLit t c i) i)
-        by (yes p) has = rw (single p)
-            (subst (Stands (stepSum (h .step) (knownOf h s)) (defTokens (stepIn (s .stored)) (oneDef (sideLit t c 1) i only-if)))
-            (one i (omega arith)) (one-only (stepIn (s .stored)) (sideLit t c 1) i (omega arith)))
-        by (no p) has = long-only (omega arith) i l (c .offset) (c .limit) refl refl has
-
     pub side-if : (i : ℕ) → 1 ≤ i → i ≤ sideLen t c + 1 → ((j : Key) → List·Memᴰ j (keyOf (sideDef t c i if)) → List·Memᴰ j (keys s))
         → Stands (stepSum (h .step) (knownOf h s)) (defTokens (stepIn (s .stored)) (sideDef t c i if)) (real-if (sideLeaves t c) (sideLit t c i) i)
-    unfolding sideDef
-    side-if i a l has = by (decLe (sideLen t c) 1) has
+    side-if i a l =
+        by-form (λ (e : Definition). ((j : Key) → List·Memᴰ j (keyOf e) → List·Memᴰ j (keys s))
+        → Stands (stepSum (h .step) (knownOf h s)) (defTokens (stepIn (s .stored)) e) (real-if (sideLeaves t c) (sideLit t c i) i)) t c i if
+        (λ p has. rw (single p)
+        (subst (Stands (stepSum (h .step) (knownOf h s)) (defTokens (stepIn (s .stored)) (oneDef (sideLit t c 1) i if))) (one i a (omega arith))
+        (one-if (stepIn (s .stored)) (sideLit t c 1) i a (omega arith))))
+        (λ p e g has. plain-if p e g i a l (has (real (c .node) i) (real-key-if (sideLen t c) (c .node) i a)))
+        (λ p g v q has. window-if p g i v q a l
+        (has (window (c .node) (c .offset) (sideLen t c)) (window-key-if (c .node) (c .offset) (sideLen t c) i v q a)))
       where
         one : (i : ℕ) → 1 ≤ i → i ≤ 2 → real-if (sideLit t c 1 ∷ []) (sideLit t c 1) i ≡ real-if (sideLit t c 1 ∷ []) (sideLit t c i) i
         one zero z g = absurd (omega arith)
         one (suc zero) z g = refl
         one (suc (suc zero)) z g = leaf-two (sideLit t c 1) (sideLit t c 1) ∙ sym (leaf-two (sideLit t c 1) (sideLit t c 2))
         one (suc (suc (suc i))) z g = absurd (omega arith)
-
-        by : (q : Dec (sideLen t c ≤ 1))
-            → ((j : Key) → List·Memᴰ j
-            (keyOf (dite q (λ _. oneDef (sideLit t c 1) i if) (λ _. longDef (sideLen t c) (c .node) (c .offset) (c .limit) i if)))
-            → List·Memᴰ j (keys s))
-            → Stands (stepSum (h .step) (knownOf h s))
-            (defTokens (stepIn (s .stored))
-            (dite q (λ _. oneDef (sideLit t c 1) i if) (λ _. longDef (sideLen t c) (c .node) (c .offset) (c .limit) i if)))
-            (real-if (sideLeaves t c) (sideLit t c i) i)
-        by (yes p) has = rw (single p)
-            (subst (Stands (stepSum (h .step) (knownOf h s)) (defTokens (stepIn (s .stored)) (oneDef (sideLit t c 1) i if))) (one i a (omega arith))
-            (one-if (stepIn (s .stored)) (sideLit t c 1) i a (omega arith)))
-        by (no p) has = long-if (omega arith) i a l (c .offset) (c .limit) refl refl has

@@ -19,6 +19,7 @@ use Rattle.cert.specs.State.{State, keys, fromIn, stepIn, Head}
 use Rattle.cert.proofs.Apart.{length-range}
 use Rattle.cert.proofs.ClauseDerivations.{Stands, stands-given, stands-nothing, apart-negs}
 use Rattle.cert.proofs.Derivations.{gives-step, clean-room, gives-literal}
+use Rattle.cert.proofs.Keyed.{KeyOf, only-if-zero, if-above, only-if-above}
 use Rattle.cert.proofs.Distinct.{Different, different-apart, outputs-different}
 use Rattle.cert.proofs.Known.{sumOf, KnownIn, knownOf, fromIn-found, Segment, segment-step, real-sums}
 use Rattle.cert.proofs.Totalizer.{real-only-if, leaf-zero, leaf-only-if, real-if, leaf-if, leaf-two, window-only-if-real, window-if-real}
@@ -252,42 +253,35 @@ module _ (h : Head) (t : List Node) (s : State) (k : KnownIn h t s) where
     value-is : (i : ℕ) → f + suc i ≡ f + 1 + i
     value-is i = omega arith
 
-    pub window-only-stands : (i : ℕ) → i ≤ m
-        → Stands (stepSum (h .step) (knownOf h s)) (defTokens (stepIn (s .stored)) (windowDef n f m i only-if))
+    pub window-only-stands : (i v : ℕ) → KeyOf f i v → i ≤ m
+        → Stands (stepSum (h .step) (knownOf h s)) (defTokens (stepIn (s .stored)) (windowDef n f m v only-if))
         (real-only-if (outputs (at t n) f m) (output (at t n) (f + i)) i)
-    unfolding defTokens windowDef stepIn
-    window-only-stands zero l =
-        rw (zero-sum (output (at t n) (f + 0)))
+    unfolding defTokens stepIn
+    window-only-stands zero v k l =
+        rw (only-if-zero n f m v k, zero-sum (output (at t n) (f + 0)))
         (stands-step (fromIn (s .stored) (window-zero n f m)) (units (outputs (at t n) f m) ≥ 0)
         (units (outputs (at t n) f m) ≥ 0) zero-at (Apart-clean _ (different-apart (outputs (at t n) f m) outs-different)) (same-refl _))
-    window-only-stands (suc i) l = by (decLe (suc i) m)
-      where
-        by : (c : Dec (suc i ≤ m))
-            → Stands (stepSum (h .step) (knownOf h s))
-            (defTokens (stepIn (s .stored)) (dite c (λ _. stored (window n f m) (2 * i + 2)) (λ _. lacking)))
-            (real-only-if (outputs (at t n) f m) (output (at t n) (f + suc i)) (suc i))
-        by (no e) = absurd (e l)
-        by (yes e) =
-            let z : 2 * i + 2 ≡ suc (2 * i + 1) = omega arith in
-            let w = output (at t n) (f + 1 + i) in
-            let xs = outputsBefore (at t n) f (f + 1 + i) in
-            let ys = outputsAfter (at t n) f m (f + 1 + i) in
-            let apart : Apart (units (xs ++ w ∷ ys)) =
-            subst (λ (o : List ℕ). Apart (units o)) (around i e) (different-apart (outputs (at t n) f m) outs-different) in
-            let same : Same (windowOnlyIfOf xs w ys) (real-only-if (outputs (at t n) f m) (output (at t n) (f + suc i)) (suc i)) =
-            rw (around i e, value-is i)
-            (subst (λ (v : ℕ). Same (windowOnlyIfOf xs w ys) (real-only-if (xs ++ w ∷ ys) w v)) (omega (arith, before-length i))
-            (window-only-if-real xs w ys)) in
-            rw z (stands-step (fromIn (s .stored) (window n f m) + (2 * i + 1)) (windowOnlyIfOf xs w ys)
-            (real-only-if (outputs (at t n) f m) (output (at t n) (f + suc i)) (suc i)) (only-at i e ∙ (unfold windowOnlyIfSum in refl))
-            (window-only-if-clean xs w ys apart) same)
+    window-only-stands (suc i) v k l =
+        let z : 2 * i + 2 ≡ suc (2 * i + 1) = omega arith in
+        let w = output (at t n) (f + 1 + i) in
+        let xs = outputsBefore (at t n) f (f + 1 + i) in
+        let ys = outputsAfter (at t n) f m (f + 1 + i) in
+        let apart : Apart (units (xs ++ w ∷ ys)) =
+        subst (λ (o : List ℕ). Apart (units o)) (around i l) (different-apart (outputs (at t n) f m) outs-different) in
+        let same : Same (windowOnlyIfOf xs w ys) (real-only-if (outputs (at t n) f m) (output (at t n) (f + suc i)) (suc i)) =
+        rw (around i l, value-is i)
+        (subst (λ (v : ℕ). Same (windowOnlyIfOf xs w ys) (real-only-if (xs ++ w ∷ ys) w v)) (omega (arith, before-length i))
+        (window-only-if-real xs w ys)) in
+        rw (only-if-above n f m i v k l, z) (stands-step (fromIn (s .stored) (window n f m) + (2 * i + 1)) (windowOnlyIfOf xs w ys)
+        (real-only-if (outputs (at t n) f m) (output (at t n) (f + suc i)) (suc i)) (only-at i l ∙ (unfold windowOnlyIfSum in refl))
+        (window-only-if-clean xs w ys apart) same)
 
-    pub window-if-stands : (i : ℕ) → 1 ≤ i → i ≤ m + 1
-        → Stands (stepSum (h .step) (knownOf h s)) (defTokens (stepIn (s .stored)) (windowDef n f m i if))
+    pub window-if-stands : (i v : ℕ) → KeyOf f i v → 1 ≤ i → i ≤ m + 1
+        → Stands (stepSum (h .step) (knownOf h s)) (defTokens (stepIn (s .stored)) (windowDef n f m v if))
         (real-if (outputs (at t n) f m) (output (at t n) (f + i)) i)
-    unfolding defTokens windowDef stepIn
-    window-if-stands zero g l = absurd (omega arith)
-    window-if-stands (suc i) g l = by (decLt i m)
+    unfolding defTokens stepIn
+    window-if-stands zero v k g l = absurd (omega arith)
+    window-if-stands (suc i) v k g l = rw (if-above n f m i v k) (by (decLt i m))
       where
         z : 2 * i + 1 ≡ suc (2 * i)
         z = omega arith

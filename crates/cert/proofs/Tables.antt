@@ -11,8 +11,8 @@ use lib.ListN.{length, length-append}
 use lib.Seq.{getD-append-seam}
 use Rattle.totdb.specs.Nodes.{Node, at, leaf, join, len, limited, sideLen, any, isOver, taken}
 use Rattle.totdb.specs.declared.Side.{Side}
-use Rattle.cert.specs.Requests.{Request, request}
-use Rattle.cert.proofs.Apart.{Fit, Sized, Numbered, Right}
+use Rattle.cert.specs.Requests.{Request, request, Right}
+use Rattle.cert.specs.Sized.{Fit, Sized, Numbered}
 use Rattle.cert.proofs.Rules.{at-more, sideLen-more, sideLeaves-more}
 
 -- The last node of a table, or one before it.
@@ -133,7 +133,7 @@ side-some t s h = by (s .limit)
 
 -- ---- nodes under a join
 
-any-snoc : (f : Node → Bool) (t : List Node) (a : Node) → any f (t ++ (a ∷ [])) ≡ (any f t || f a)
+pub any-snoc : (f : Node → Bool) (t : List Node) (a : Node) → any f (t ++ (a ∷ [])) ≡ (any f t || f a)
 unfolding any
 any-snoc f [] a = by (f a)
   where

@@ -9,7 +9,7 @@ use Rattle.pb.specs.Rules.{Token, step, literal, add, divide, saturate}
 use Rattle.pb.specs.Sum.{neg, _·_, Sum, _≥_, units, keep, normal}
 use Rattle.record.specs.Record.{Record, sum, derivation, clause, deletion}
 use Rattle.record.specs.Steps.{Defined, written, derived}
-use Rattle.totdb.specs.Nodes.{Node, at, leaves, len, output, range, sideLen, sideLit, plainOr, outputs}
+use Rattle.totdb.specs.Nodes.{Node, at, leaves, len, output, range, sideLen, sideLit, keyed, plainOr, outputs}
 use Rattle.totdb.specs.declared.Side.{Side}
 
 -- The direction of a definition or a request (rustsat's Semantics), for an output of value v. `if`: where at least v of the leaf list are true, the
@@ -50,23 +50,24 @@ realDef m n zero only-if = stored (real n 0) 0
 realDef m n (suc v) if = stored (real n (suc v)) 0
 realDef m n (suc v) only-if = dite (decLe (suc v) m) (λ _. stored (real n (suc v)) 1) (λ _. lacking)
 
--- Value f + i of a window of m outputs. Value f, i = 0, is its value 0; no lookup is lower.
+-- A window of m outputs, by key: 0 for its value 0, else the node's value v, from f + 1 to f + m + 1.
 unfoldable pub windowDef : ℕ → ℕ → ℕ → ℕ → Direction → Definition
 unfolding decLe
 windowDef n f m zero if = lacking
 windowDef n f m zero only-if = stored (window n f m) 0
-windowDef n f m (suc i) if = stored (window n f m) (2 * i + 1)
-windowDef n f m (suc i) only-if = dite (decLe (suc i) m) (λ _. stored (window n f m) (2 * i + 2)) (λ _. lacking)
+windowDef n f m (suc v) if = stored (window n f m) (2 * (v - f) + 1)
+windowDef n f m (suc v) only-if = dite (decLe (suc v) (f + m)) (λ _. stored (window n f m) (2 * (v - f) + 2)) (λ _. lacking)
 
--- Plain, or a window: node n, offset and limit, m outputs.
+-- By key. Plain, or a window: node n, offset and limit, m outputs.
 unfoldable pub longDef : ℕ → ℕ → ℕ → ℕ → ℕ → Direction → Definition
 unfolding plainOr realDef windowDef
-longDef m n f k i d = plainOr f k (realDef m n i d) (windowDef n f m i d)
+longDef m n f k v d = plainOr f k (realDef m n v d) (windowDef n f m v d)
 
--- The definition of a side's value i, from 0 to one above its length.
+-- The definition of a side's value i, from 0 to one above its length. A value at or below the offset is keyed 0.
 unfoldable pub sideDef : List Node → Side → ℕ → Direction → Definition
-unfolding sideLen sideLit oneDef longDef decLe
-sideDef t s i d = dite (decLe (sideLen t s) 1) (λ _. oneDef (sideLit t s 1) i d) (λ _. longDef (sideLen t s) (s .node) (s .offset) (s .limit) i d)
+unfolding sideLen sideLit oneDef longDef keyed decLe
+sideDef t s i d =
+    dite (decLe (sideLen t s) 1) (λ _. oneDef (sideLit t s 1) i d) (λ _. longDef (sideLen t s) (s .node) (s .offset) (s .limit) (keyed s i) d)
 
 -- The real definitions of the outputs of a window, ascending.
 abbrev pub windowReals : ℕ → ℕ → ℕ → List Key

@@ -3,3 +3,7 @@ pub mod Requests
 pub mod Equal
 pub mod State
 pub mod Totalizer
+pub mod Lookups
+pub mod Sized
+pub mod Counted
+pub mod Meaning

@@ -2,8 +2,9 @@
 use mathlib.Core.Bool.{Bool, true, false, _||_}
 use mathlib.Core.Logic.{dite}
 use mathlib.Core.List.{List, [], _∷_, _++_, map, flatMap}
-use Prim.Native.Nat.{ℕ, zero, suc, _+_, _-_, min}
+use Prim.Native.Nat.{ℕ, zero, suc, _+_, _-_, min, _≤_, _<_}
 use native.Mathlib.Decide.{decLe}
+use lib.ListN.{length}
 use Rattle.pb.specs.Rules.{Token, step, literal, saturate}
 use Rattle.pb.specs.Sum.{neg}
 use Rattle.totdb.specs.Nodes.{Node, leaf, join, at, len, output, range, sideLen, sideLit}
@@ -16,6 +17,13 @@ pub data Request : Type 0 where
 
 unfoldable pub nodeOf : Request → ℕ
 nodeOf (request n v d) = n
+
+-- What a request command names, by its node, value and direction: 1 if, 2 only-if, 3 both, as two.
+pub data Names (n v : ℕ) : ℕ → Request → Type 0 where
+  names-if : Names n v 1 (request n v if)
+  names-only-if : Names n v 2 (request n v only-if)
+  names-both-if : Names n v 3 (request n v if)
+  names-both-only-if : Names n v 3 (request n v only-if)
 
 -- ---- needs
 
@@ -152,3 +160,7 @@ stepSequence this left right = addSequence (addSequence this left) right ++ (sat
 unfoldable pub clauseTokens : (Key → ℕ → ℕ) → Clause → List Token
 unfolding defTokens addSequence
 clauseTokens at-step c = stepSequence (defTokens at-step (c .this)) (defTokens at-step (c .left)) (defTokens at-step (c .right))
+
+-- A request as it is put: the value is one of the node's.
+unfoldable pub Right : List Node → Request → Type 0
+Right t (request n v d) = (n < length t) × (1 ≤ v) × (v ≤ len (at t n))

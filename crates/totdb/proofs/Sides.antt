@@ -1,12 +1,12 @@
 -- The rules of a side, case by case, as its code has them.
-use mathlib.Core.Path.{_≡_, refl}
-use mathlib.Core.Bool.{true, false}
+use mathlib.Core.Path.{_≡_, refl, sym}
+use mathlib.Core.Bool.{true, false, true≢false}
 use mathlib.Core.List.{List}
 use Prim.Native.Nat.{ℕ, zero, suc, _+_, _-_, _*_, _≤_, _<_}
 use native.Mathlib.Omega.{arith}
 use borrow.Author.Tests.{ne-eqb}
 use lib.Dec.{eqb}
-use Rattle.totdb.specs.Nodes.{leaf, join, output, fromFirst, limited, lengthOver, plainOr, keyed}
+use Rattle.totdb.specs.Nodes.{leaf, join, output, fromFirst, limited, lengthOver, plainOr, keyed, part}
 use Rattle.totdb.specs.declared.Side.{Side}
 
 limited-set : (k n : ℕ) → 0 < k → limited k n ≡ k
@@ -26,15 +26,34 @@ module _ (s : Side) (n : ℕ) where
   pub length-rest : s .limit ≡ 0 → lengthOver s n ≡ n - s .offset
   length-rest h = limited-none (s .limit) (n - s .offset) h
 
+-- The key of the a-th value: 0 at the offset, else the node's value.
 pub keyed-zero : (s : Side) (a : ℕ) → a ≡ 0 → keyed s a ≡ 0
 unfolding keyed
-keyed-zero s zero h = refl
+keyed-zero s zero h = omega arith
 keyed-zero s (suc a) h = absurd (omega arith)
 
 pub keyed-above : (s : Side) (a : ℕ) → 0 < a → keyed s a ≡ s .offset + a
 unfolding keyed
 keyed-above s zero h = absurd (omega arith)
-keyed-above s (suc a) h = refl
+keyed-above s (suc a) h = omega arith
+
+-- A plain side, or a window, by the test of the code.
+pub plain-zero : (f k : ℕ) → plainOr f k true false ≡ true → (f ≡ 0) × (k ≡ 0)
+unfolding plainOr
+plain-zero zero zero h = (refl, refl)
+plain-zero zero (suc k) h = absurd (true≢false (sym h))
+plain-zero (suc f) k h = absurd (true≢false (sym h))
+
+pub window-more : (f k : ℕ) → plainOr f k true false ≡ false → 0 < f + k
+unfolding plainOr
+window-more zero zero h = absurd (true≢false h)
+window-more zero (suc k) h = omega arith
+window-more (suc f) k h = omega arith
+
+-- A value of a plain side is its own key.
+pub plain-keyed : (s : Side) → plainOr (s .offset) (s .limit) true false ≡ true → (a : ℕ) → keyed s a ≡ a
+plain-keyed s p zero = keyed-zero s zero refl
+plain-keyed s p (suc a) = omega (arith, keyed-above s (suc a) (omega arith), plain-zero (s .offset) (s .limit) p .0)
 
 -- By the limit where the offset is 0; by the offset where it is not.
 module _ (f k : ℕ) where
@@ -62,3 +81,7 @@ join-outputs ls o l r i h = omega arith
 pub leaf-output : (l : ℕ) → output (leaf l) 1 ≡ fromFirst l 1
 unfolding output fromFirst
 leaf-output l = omega arith
+
+-- A part, by where it starts and how long it is.
+pub same-part : (l : List ℕ) {i n j m : ℕ} → i ≡ j → n ≡ m → part l i n ≡ part l j m
+same-part l e f = rw (e, f)

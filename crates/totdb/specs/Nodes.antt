@@ -3,7 +3,7 @@ use mathlib.Core.Bool.{Bool, false, _||_}
 use mathlib.Core.List.{List, [], _∷_, _++_, map}
 use Prim.Native.Nat.{ℕ, zero, suc, _+_, _-_, _*_}
 use lib.Dec.{eqb}
-use lib.ListN.{length, getD}
+use lib.ListN.{length, getD, take, drop}
 use Rattle.totdb.specs.declared.Side.{Side}
 
 -- A leaf with its literal. A join (an inner node of the totalizer's tree) with its leaf list, its first output variable and its two sides.
@@ -44,6 +44,10 @@ unfolding output range
 outputs x f m = map (output x) (range (f + 1) m)
 
 -- ---- sides
+
+-- The n elements of a list from place i on.
+unfoldable pub part : List ℕ → ℕ → ℕ → List ℕ
+part l i n = take n (drop i l)
 
 -- the limit if set, else n
 unfoldable pub limited : ℕ → ℕ → ℕ
