@@ -16,26 +16,29 @@ use Rattle.pb.specs.Sum.{Sum, normal, variable, units, clauseSum}
 use Rattle.pb.proofs.Normal.{Off, Apart}
 use Rattle.record.specs.Record.{Record, sum, derivation, clause, deletion, clauses, steps}
 use Rattle.record.specs.Steps.{stepSum, sumsAfter, stepOf}
+use Rattle.record.proofs.Steps.{sums-append, step-known}
 use Rattle.totdb.specs.Nodes.{Node, leaf, join, at, leaves, len, output, sideLen, sideLit, sideLeaves, known, joined}
 use Rattle.totdb.specs.declared.Side.{Side}
 use Rattle.cert.specs.Definitions.{Key, Definition, if, only-if, Direction, real, stored, lacking, realDef, sideDef, pulls, keyRecords}
-use Rattle.cert.specs.Requests.{Request, request, Clause, ifClause, onlyIfClause, clausesAt, clausesOf, splits, keyOf, looksOf, defTokens, clauseTokens}
+use Rattle.cert.specs.Requests.{Request, request, Clause, ifClause, onlyIfClause, clausesAt, clausesOf, splits, keyOf, looksOf, defTokens, clauseTokens, Right}
+use Rattle.cert.specs.Sized.{Fit, Sized}
 use Rattle.cert.specs.State.{State, keys, stepIn, define, write, hold, serve, start, requests, Head, storedSteps}
-use Rattle.cert.proofs.Apart.{Fit, Sized, Right, splits-mem}
+use Rattle.cert.proofs.Apart.{splits-mem}
 use Rattle.cert.proofs.ClauseDerivations.{if-evaluates, only-if-evaluates, if-literals, only-literals}
 use Rattle.cert.proofs.Distinct.{Different, Distinct, LeftApart, different-apart, off-units}
 use Rattle.cert.proofs.Fits.{KeyFits, request-falls, key-falls, looked-fit}
-use Rattle.cert.proofs.Known.{KnownIn, knownOf, sums-append, known-define, known-more, real-ready}
+use Rattle.cert.proofs.Known.{KnownIn, knownOf, known-define, known-more, real-ready}
 use Rattle.cert.proofs.Serving.{define-keys, key-no-clauses, Asked, serve-keeps}
 use Rattle.cert.proofs.SideTokens.{node-off, side-only, side-if}
 use Rattle.cert.proofs.Totalizer.{real-if, real-only-if}
 use Rattle.cert.proofs.WindowDerivations.{real-if-clean, real-only-clean}
+use Rattle.player.specs.Formed.{Sound}
 use Rattle.player.specs.Passes.{AllPassed}
 use Rattle.player.specs.Player.{make, delete, firstNo, questions, act}
 use Rattle.player.specs.declared.Command.{Command}
 use Rattle.player.proofs.Counts.{all-keep}
-use Rattle.player.proofs.Defines.{Told, told-start, told-act, step-known, known-after, known-length}
-use Rattle.player.proofs.Sound.{Sound, sideLeaves-length, request-fits, requests-asked, requests-right, sound-start}
+use Rattle.player.proofs.Defines.{Told, told-start, told-act, known-after, known-length}
+use Rattle.player.proofs.Sound.{sideLeaves-length, request-fits, requests-asked, requests-right, sound-start}
 
 -- ---- the second part of a list
 

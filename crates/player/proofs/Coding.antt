@@ -1,9 +1,11 @@
 -- Scripts as bytes and back: what is written reads as the commands, and what reads to its end is what would be written.
 use mathlib.Core.Path.{_≡_, refl, sym, _∙_, ap}
-use mathlib.Core.Bool.{Bool, true, false}
+use mathlib.Core.Bool.{Bool, true, false, _&&_}
 use mathlib.Core.List.{List, [], _∷_, _++_, flatMap, append-assoc, append-nil}
 use Prim.Native.Nat.{ℕ, zero, suc, _+_, _^_, _≤_, _<_}
 use native.Mathlib.Omega.{arith}
+use borrow.Author.Tests.{ltb-true}
+use lib.Dec.{ltb}
 use lib.ListN.{length, getD, length-append}
 use lib.Seq.{getD-append-add}
 use Rattle.number.specs.Number.{groups, Bytes, encode, Front, number, bad, read}
@@ -14,7 +16,7 @@ use Rattle.cert.specs.State.{Head}
 use Rattle.player.specs.Script.{Next, command, refuse, end, get, arguments, readCommand, closes, Commands, stop, before, readCommands, script, readScript, commandNumbers, scriptBytes}
 use Rattle.player.specs.declared.Command.{Command}
 use Rattle.player.specs.declared.Command.the-variants.{Leaf, Join, Request, Close}
-use Rattle.player.proofs.Refusal.{head-read}
+use Rattle.player.proofs.Refusal.{and-true, head-read}
 
 -- ---- what is written reads
 
@@ -24,7 +26,7 @@ unfolding get flatMap
 get-more x ns rest f h = rw (append-assoc (encode x) (flatMap encode ns) rest, read-encode x (flatMap encode ns ++ rest) h, get)
 
 -- The bytes of a command, where nothing is closed.
-abbrev commandBytes : Command → List ℕ
+abbrev pub commandBytes : Command → List ℕ
 commandBytes c = flatMap encode (commandNumbers c)
 
 arguments-back : (c : Command) (rest : List ℕ) → Small (commandNumbers c) → get (commandBytes c ++ rest) arguments ≡ command c rest
@@ -41,7 +43,7 @@ arguments-back (Request n v d) rest s =
     ∙ (unfold flatMap in refl)
 arguments-back Close rest s = get-more 4 _ rest _ (s .0) ∙ (unfold flatMap in refl)
 
-some-bytes : (c : Command) → 0 < length (commandBytes c)
+pub some-bytes : (c : Command) → 0 < length (commandBytes c)
 unfolding commandNumbers flatMap
 some-bytes (Leaf l) = omega (arith, encode-some 1, length-append (encode 1) (flatMap encode (l ∷ [])))
 some-bytes (Join l r) =
@@ -49,7 +51,7 @@ some-bytes (Join l r) =
 some-bytes (Request n v d) = omega (arith, encode-some 3, length-append (encode 3) (flatMap encode (n ∷ v ∷ d ∷ [])))
 some-bytes Close = omega (arith, encode-some 4, length-append (encode 4) [])
 
-command-back : (c : Command) (rest : List ℕ) → Small (commandNumbers c) → readCommand false (commandBytes c ++ rest) ≡ command c rest
+pub command-back : (c : Command) (rest : List ℕ) → Small (commandNumbers c) → readCommand false (commandBytes c ++ rest) ≡ command c rest
 command-back c rest s = by (commandBytes c) (some-bytes c) (arguments-back c rest s)
   where
     by : (bs : List ℕ) → 0 < length bs → get (bs ++ rest) arguments ≡ command c rest → readCommand false (bs ++ rest) ≡ command c rest
@@ -68,7 +70,7 @@ unfolding Small
 small-split [] ns s = (tt, s)
 small-split (m ∷ ms) ns s = let r = small-split ms ns (s .1) in ((s .0, r .0), r .1)
 
-nothing-left : (k : ℕ) (closed : Bool) → readCommands k closed [] ≡ record { list = []; ending = 0 }
+pub nothing-left : (k : ℕ) (closed : Bool) → readCommands k closed [] ≡ record { list = []; ending = 0 }
 unfolding readCommands readCommand stop
 nothing-left zero closed = refl
 nothing-left (suc k) closed = refl
@@ -119,30 +121,30 @@ script-back h cs a b s o =
 
 -- ---- what reads is what would be written
 
-bytes-rest : (x : ℕ) (rest : List ℕ) → Bytes (encode x ++ rest) → Bytes rest
+pub bytes-rest : (x : ℕ) (rest : List ℕ) → Bytes (encode x ++ rest) → Bytes rest
 unfolding Bytes
 bytes-rest x rest h i = rw (getD-append-add (encode x) rest i 0) at (h (length (encode x) + i))
 
 -- After the numbers `ms` of a command, a reader takes the others.
 abbrev Spells : List ℕ → (List ℕ → Next) → Type 0
 Spells ms f = (bs : List ℕ) (c : Command) (rest : List ℕ) → Bytes bs → f bs ≡ command c rest
-    → (ns : List ℕ) × (bs ≡ flatMap encode ns ++ rest) × (commandNumbers c ≡ ms ++ ns) × Bytes rest
+    → (ns : List ℕ) × (bs ≡ flatMap encode ns ++ rest) × (commandNumbers c ≡ ms ++ ns) × Bytes rest × Small ns
 
 spells-done : (c : Command) → Spells (commandNumbers c) (command c)
-unfolding flatMap
+unfolding flatMap Small
 spells-done c bs d rest h e =
     let p : bs ≡ rest = cc in
     let q : c ≡ d = cc in
-    ([], p, rw (append-nil, q), rw p at h)
+    ([], p, rw (append-nil, q), rw p at h, tt)
 
 spells-refuse : (ms : List ℕ) (n : ℕ) → Spells ms (λ bs. refuse n)
 spells-refuse ms n bs c rest h e = absurd (let z : _≡_ {A = ℕ} 0 1 = cc in omega arith)
 
 spells-get : (ms : List ℕ) (f : ℕ → List ℕ → Next) → ((x : ℕ) → Spells (ms ++ (x ∷ [])) (f x)) → Spells ms (λ bs. get bs f)
-unfolding get flatMap
+unfolding get flatMap Small
 spells-get ms f l bs c rest h e = by (read bs) refl
   where
-    by : (t : Front) → read bs ≡ t → (ns : List ℕ) × (bs ≡ flatMap encode ns ++ rest) × (commandNumbers c ≡ ms ++ ns) × Bytes rest
+    by : (t : Front) → read bs ≡ t → (ns : List ℕ) × (bs ≡ flatMap encode ns ++ rest) × (commandNumbers c ≡ ms ++ ns) × Bytes rest × Small ns
     by bad k = absurd (let j = rw (k, get) at e in let z : _≡_ {A = ℕ} 0 1 = cc in omega arith)
     by (number x r) k =
         let p = read-number bs h k in
@@ -151,6 +153,7 @@ spells-get ms f l bs c rest h e = by (read bs) refl
           p .0 ∙ ap (λ (u : List ℕ). encode x ++ u) (q .1) ∙ sym (append-assoc (encode x) (flatMap encode (q .0)) rest),
           q .2 ∙ append-assoc ms (x ∷ []) (q .0),
           q .3,
+          (p .1, q .4),
         )
 
 spells-arguments : (n : ℕ) → Spells (n ∷ []) (arguments n)
@@ -170,11 +173,11 @@ spells-code : (closed : Bool) → Spells [] (λ bs. get bs (λ c r. elim closed 
 spells-code true = spells-get [] _ (λ c. spells-refuse (c ∷ []) 4)
 spells-code false = spells-get [] _ spells-arguments
 
-command-written : (closed : Bool) (bs : List ℕ) (c : Command) (rest : List ℕ) → Bytes bs → readCommand closed bs ≡ command c rest
-    → (bs ≡ commandBytes c ++ rest) × Bytes rest
+pub command-written : (closed : Bool) (bs : List ℕ) (c : Command) (rest : List ℕ) → Bytes bs → readCommand closed bs ≡ command c rest
+    → (bs ≡ commandBytes c ++ rest) × Bytes rest × Small (commandNumbers c)
 unfolding readCommand
 command-written closed [] c rest h e = absurd (let z : _≡_ {A = ℕ} 0 1 = cc in omega arith)
-command-written closed (b ∷ bs) c rest h e = let p = spells-code closed (b ∷ bs) c rest h e in (p .1 ∙ rw (p .2), p .3)
+command-written closed (b ∷ bs) c rest h e = let p = spells-code closed (b ∷ bs) c rest h e in (p .1 ∙ rw (p .2), p .3, rw (p .2) (p .4))
 
 -- A reader of a command's numbers never says that the script ends, and refuses with a number from 1 to 5.
 abbrev Proper : (List ℕ → Next) → Type 0
@@ -208,7 +211,7 @@ proper-code : (closed : Bool) → Proper (λ bs. get bs (λ c r. elim closed [ t
 proper-code true = proper-get _ (λ c. proper-refuse 4 (omega arith) (omega arith))
 proper-code false = proper-get _ proper-arguments
 
-at-end : (closed : Bool) (bs : List ℕ) → readCommand closed bs ≡ end → bs ≡ []
+pub at-end : (closed : Bool) (bs : List ℕ) → readCommand closed bs ≡ end → bs ≡ []
 unfolding readCommand
 at-end closed [] e = refl
 at-end closed (b ∷ bs) e = absurd (proper-code closed (b ∷ bs) .0 e)
@@ -253,6 +256,17 @@ script-written bs h cs w e z =
 
 -- ---- a script that meets the hypotheses: a leaf and a close
 
+-- A list of bytes, by a test that computes.
+unfoldable pub areBytes : List ℕ → Bool
+areBytes [] = true
+areBytes (b ∷ bs) = ltb b 256 && areBytes bs
+
+pub bytes-tested : (bs : List ℕ) → areBytes bs ≡ true → Bytes bs
+unfolding areBytes Bytes
+bytes-tested [] e i = omega arith
+bytes-tested (b ∷ bs) e zero = ltb-true b 256 (and-true (ltb b 256) (areBytes bs) e .0)
+bytes-tested (b ∷ bs) e (suc i) = bytes-tested bs (and-true (ltb b 256) (areBytes bs) e .1) i
+
 unfoldable pub leaf-closed : List Command
 leaf-closed = Leaf 300 ∷ Close ∷ []
 
@@ -266,21 +280,7 @@ met-back =
     script-back (record { variable = 256; step = 1 }) leaf-closed (omega arith) (omega arith)
     (omega arith, (omega arith, (omega arith, tt))) (refl, tt)
 
-leaf-bytes-are : Bytes leaf-bytes
-unfolding Bytes leaf-bytes
-leaf-bytes-are zero = omega arith
-leaf-bytes-are (suc zero) = omega arith
-leaf-bytes-are (suc (suc zero)) = omega arith
-leaf-bytes-are (suc (suc (suc zero))) = omega arith
-leaf-bytes-are (suc (suc (suc (suc zero)))) = omega arith
-leaf-bytes-are (suc (suc (suc (suc (suc zero))))) = omega arith
-leaf-bytes-are (suc (suc (suc (suc (suc (suc i)))))) = last i
-  where
-    last : (i : ℕ) → getD {A = ℕ} (4 ∷ []) i 0 < 256
-    last zero = omega arith
-    last (suc i) = omega arith
-
 pub met-written : leaf-bytes ≡ scriptBytes (record { variable = 256; step = 1 }) leaf-closed
-unfolding leaf-bytes leaf-closed readScript
+unfolding leaf-bytes leaf-closed readScript areBytes
 met-written =
-    script-written leaf-bytes (record { variable = 256; step = 1 }) (record { list = leaf-closed; ending = 0 }) leaf-bytes-are refl refl
+    script-written leaf-bytes (record { variable = 256; step = 1 }) (record { list = leaf-closed; ending = 0 }) (bytes-tested leaf-bytes refl) refl refl

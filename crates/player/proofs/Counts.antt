@@ -8,22 +8,23 @@ use lib.ListN.{length, length-append}
 use Rattle.memo.proofs.Lists.{flatMap-agree}
 use Rattle.record.specs.Record.{steps, deletion, clauses}
 use Rattle.totdb.specs.Nodes.{Node, len, known, leaf, joined}
+use Rattle.cert.specs.Counted.{KeyIn, CountedIn, Counted}
 use Rattle.cert.specs.Definitions.{Key, definedBy}
 use Rattle.cert.specs.State.{State, keys, start, serve, requests, Head, storedSteps}
 use Rattle.cert.proofs.Apart.{sized-ok}
-use Rattle.cert.proofs.Counts.{steps-append, defined-more, CountedIn, Counted, counted-start, counted-serve}
-use Rattle.cert.proofs.Rules.{KeyIn}
+use Rattle.cert.proofs.Counts.{steps-append, defined-more, counted-start, counted-serve}
 use Rattle.cert.proofs.Serving.{clauses-append}
+use Rattle.player.specs.Formed.{Sound}
 use Rattle.player.specs.Passes.{AllPassed, all-done, all-more}
 use Rattle.player.specs.Player.{make, delete, firstNo, questions, act}
 use Rattle.player.specs.declared.Command.{Command}
-use Rattle.player.proofs.Sound.{Sound, requests-asked, request-fits, serve-nodes, sound-act, sound-start}
+use Rattle.player.proofs.Sound.{requests-asked, request-fits, serve-nodes, sound-act, sound-start}
 
 key-more : (t u : List Node) (k : Key) → KeyIn t k → KeyIn (t ++ u) k
 unfolding KeyIn
 key-more t u k i = omega (arith, length-append t u)
 
-counted-make : (h : Head) (a : Node) (n : ℕ) (s : State) → Counted h s → Counted h (make a n s)
+pub counted-make : (h : Head) (a : Node) (n : ℕ) (s : State) → Counted h s → Counted h (make a n s)
 unfolding make keys
 counted-make h a n s c = record {
   next = c .next;
@@ -33,7 +34,7 @@ counted-make h a n s c = record {
       (λ k m. defined-more (s .nodes) (a ∷ []) k (c .keys-in k m)));
 }
 
-counted-delete : (h : Head) (s : State) → Counted h s → Counted h (delete s)
+pub counted-delete : (h : Head) (s : State) → Counted h s → Counted h (delete s)
 unfolding delete keys
 counted-delete h s c =
     let ss = storedSteps (s .nodes) (s .stored) in

@@ -1,14 +1,12 @@
 -- The log of an accepted script reads back as the records that were written.
 use mathlib.Core.Path.{_≡_, refl, sym, ap, subst}
-use mathlib.Core.Bool.{Bool, true, false, _&&_}
+use mathlib.Core.Bool.{Bool, true, false}
 use mathlib.Core.Logic.{⊎-elim, dite}
 use mathlib.Core.List.{List, [], _∷_, _++_, map, flatMap, List·Memᴰ, List·Memᴰ·head, List·Memᴰ·tail, List·Memᴰ·not-nil, List·Memᴰ·append-cases, List·Memᴰ·eq-of-singleton, Memᴰ·map, Memᴰ·of-map}
 use mathlib.Core.Option.{some}
 use Prim.Native.Nat.{ℕ, zero, suc, _+_, _-_, _*_, _≤_, _<_, _^_}
 use native.Mathlib.Decide.{decLe}
 use native.Mathlib.Omega.{arith}
-use borrow.Author.Tests.{leb-true}
-use lib.Dec.{leb}
 use lib.ListN.{length}
 use Rattle.number.specs.Number.{groups}
 use Rattle.pb.specs.Sum.{neg}
@@ -18,21 +16,26 @@ use Rattle.record.proofs.Bytes.{two-bytes}
 use Rattle.record.proofs.Decode.{Small, decode-bytes}
 use Rattle.totdb.specs.Nodes.{Node, len, leaf, join, output, leaves, at, sideLen, sideLit, sideOutputs, outputs, range, plainOr, sideLeaves, known, joined}
 use Rattle.totdb.specs.declared.Side.{Side}
-use Rattle.cert.specs.Definitions.{Definition, lacking, Direction, oneDef, if, only-if, realDef, stored, real, windowDef, window, longDef, sideDef, definedBy, Key, window-zero, keyRecords}
+use Rattle.cert.specs.Counted.{Counted}
+use Rattle.cert.specs.Definitions.{Definition, lacking, Direction, oneDef, if, only-if, realDef, stored, real, windowDef, window, sideDef, definedBy, Key, window-zero, keyRecords}
 use Rattle.cert.specs.Equal.{key-dec}
-use Rattle.cert.specs.Requests.{negPart, posPart, Clause, Request, clausesOf, clausesAt, request, ifClause, splits, onlyIfClause, clauseTokens}
+use Rattle.cert.specs.Requests.{negPart, posPart, Clause, Request, clausesOf, clausesAt, request, ifClause, splits, onlyIfClause, clauseTokens, Right}
+use Rattle.cert.specs.Sized.{Sized, Fit}
 use Rattle.cert.specs.State.{State, Stored, fromIn, stepIn, define, write, hold, serve, start, keys, requests, Head, storedSteps}
-use Rattle.cert.proofs.Apart.{range-mem, Sized, Fit, Right, splits-mem, sized-ok}
-use Rattle.cert.proofs.Counts.{key-count, Counted, counted-start, defined-more}
+use Rattle.cert.proofs.Apart.{range-mem, splits-mem, sized-ok}
+use Rattle.cert.proofs.Counts.{key-count, counted-start, defined-more}
 use Rattle.cert.proofs.Fits.{KeyFits, request-falls, key-falls, looked-fit}
+use Rattle.cert.proofs.Keyed.{by-form, key-most}
 use Rattle.cert.proofs.Serving.{serve-keeps, Asked}
+use Rattle.player.specs.Formed.{Sound, Treed}
 use Rattle.player.specs.Passes.{AllPassed, all-done, all-more}
 use Rattle.player.specs.Player.{make, delete, firstNo, questions, act, headFits}
 use Rattle.player.specs.declared.Command.{Command}
 use Rattle.player.proofs.Counts.{counted-act, all-keep}
-use Rattle.player.proofs.Refusal.{and-true, start-empty, passed-fits}
-use Rattle.player.proofs.Sound.{Sound, request-fits, requests-asked, serve-nodes, requests-right, sound-start}
-use Rattle.player.proofs.Tree.{Treed, treed-start, few-variables, treed-act}
+use Rattle.player.proofs.Formed.{head-low}
+use Rattle.player.proofs.Refusal.{start-empty, passed-fits}
+use Rattle.player.proofs.Sound.{request-fits, requests-asked, serve-nodes, requests-right, sound-start}
+use Rattle.player.proofs.Tree.{treed-start, few-variables, treed-act}
 use Rattle.player.proofs.Values.{AllBelow, below-map, below-append, below-at, LowNode, below-mono, DefLow, values, keyRecords-below, clauseTokens-below, log-small}
 
 -- ---- the literals of a table are low
@@ -127,21 +130,15 @@ realDef-low b m n zero only-if = omega arith
 realDef-low b m n (suc v) if = omega arith
 realDef-low b m n (suc v) only-if = or-low b (decLe (suc v) m) (stored (real n (suc v)) 1) (unfold DefLow in omega arith)
 
-windowDef-low : (b n f m i : ℕ) (d : Direction) → m ≤ 64 → i ≤ m + 1 → DefLow b (windowDef n f m i d)
+windowDef-low : (b n f m v : ℕ) (d : Direction) → m ≤ 64 → v ≤ f + m + 1 → DefLow b (windowDef n f m v d)
 unfolding windowDef DefLow
 windowDef-low b n f m zero if h g = tt
 windowDef-low b n f m zero only-if h g = omega arith
-windowDef-low b n f m (suc i) if h g = omega arith
-windowDef-low b n f m (suc i) only-if h g = or-low-at b (decLe (suc i) m) (stored (window n f m) (2 * i + 2)) (λ e. place i e)
+windowDef-low b n f m (suc v) if h g = omega arith
+windowDef-low b n f m (suc v) only-if h g = or-low-at b (decLe (suc v) (f + m)) (stored (window n f m) (2 * (v - f) + 2)) (λ e. place v e)
   where
-    place : (i : ℕ) → suc i ≤ m → DefLow b (stored (window n f m) (2 * i + 2))
-    place i e = omega arith
-
-longDef-low : (b m n f k i : ℕ) (d : Direction) → m ≤ 64 → i ≤ m + 1 → DefLow b (longDef m n f k i d)
-unfolding longDef
-longDef-low b m n zero zero i d h g = realDef-low b m n i d
-longDef-low b m n zero (suc k) i d h g = windowDef-low b n zero m i d h g
-longDef-low b m n (suc f) k i d h g = windowDef-low b n (suc f) m i d h g
+    place : (v : ℕ) → suc v ≤ f + m → DefLow b (stored (window n f m) (2 * (v - f) + 2))
+    place v e = omega arith
 
 module _ (t : List Node) (b : ℕ) (low : (n : ℕ) → n < length t → LowNode b (at t n)) (short : (n : ℕ) → n < length t → len (at t n) ≤ 64) where
   lit-low : (s : Side) → s .node < length t → s .offset + sideLen t s ≤ len (at t (s .node)) → (i : ℕ) → 1 ≤ i → i ≤ sideLen t s → (sideLit t s i < b)
@@ -151,13 +148,10 @@ module _ (t : List Node) (b : ℕ) (low : (n : ℕ) → n < length t → LowNode
 
   sideDef-low : (s : Side) (i : ℕ) (d : Direction) → s .node < length t → s .offset + sideLen t s ≤ len (at t (s .node)) → 1 ≤ sideLen t s
       → i ≤ sideLen t s + 1 → DefLow b (sideDef t s i d)
-  unfolding sideDef
-  sideDef-low s i d h f o l = by (decLe (sideLen t s) 1)
-    where
-      by : (c : Dec (sideLen t s ≤ 1))
-          → DefLow b (dite c (λ _. oneDef (sideLit t s 1) i d) (λ _. longDef (sideLen t s) (s .node) (s .offset) (s .limit) i d))
-      by (yes p) = let k = lit-low s h f 1 (omega arith) o in oneDef-low b (sideLit t s 1) i d (k .0) (k .1)
-      by (no p) = longDef-low b (sideLen t s) (s .node) (s .offset) (s .limit) i d (omega (arith, short (s .node) h)) l
+  sideDef-low s i d h f o l =
+      by-form (DefLow b) t s i d (λ _. let k = lit-low s h f 1 (omega arith) o in oneDef-low b (sideLit t s 1) i d (k .0) (k .1))
+      (λ _ _ _. realDef-low b (sideLen t s) (s .node) i d)
+      (λ _ _ v k. windowDef-low b (s .node) (s .offset) (sideLen t s) v d (omega (arith, short (s .node) h)) (omega (arith, key-most i k)))
 
   negPart-low : (s : Side) → s .node < length t → s .offset + sideLen t s ≤ len (at t (s .node)) → (i : ℕ) → i ≤ sideLen t s
       → AllBelow b (negPart t s i)
@@ -394,13 +388,9 @@ most-three = refl
 -- Every number that an accepted script writes fits.
 pub log-fits : {h : Head} {capacity : ℕ} {cs : List Command} {u : State} → headFits h ≡ true → capacity ≤ 65536 → AllPassed h capacity cs (start h) u
     → Small (flatMap numbers (u .log))
-unfolding headFits
 log-fits {h} {capacity} {cs} {u} e c a =
-    let x = and-true (leb (h .variable) 1000000 && leb 1 (h .step)) (leb (h .step) 1000000) e in
-    let y = and-true (leb (h .variable) 1000000) (leb 1 (h .step)) (x .0) in
-    let v = leb-true (h .variable) 1000000 (y .0) in
-    let w = leb-true (h .step) 1000000 (x .1) in
-    let k = all-low 2097152 v (omega arith) a in
+    let x = head-low h e in
+    let k = all-low 2097152 (x .0) (omega arith) a in
     let f : length (bytes (u .log)) ≤ capacity = all-fit a (start-empty h capacity) in
     log-small (u .log) (omega arith)
     (subst (λ (b : ℕ). AllBelow b (flatMap values (u .log))) most-three (k .low (omega (arith, k .counted .next, two-bytes (u .log))) .all))

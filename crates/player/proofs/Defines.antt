@@ -1,37 +1,40 @@
 -- The sums that an accepted log defines, its derivations worked out, are those of the keys stored, in the order of the log.
 use mathlib.Core.Path.{_≡_, refl, sym, _∙_, ap, subst}
 use mathlib.Core.Bool.{Bool, true, false, _||_}
-use mathlib.Core.Logic.{_≢_, dite}
+use mathlib.Core.Logic.{_≢_}
 use mathlib.Core.List.{List, [], _∷_, _++_, map, flatMap, append-nil, List·Memᴰ, List·Memᴰ·not-nil, Memᴰ·map}
-use mathlib.Core.Option.{Option, none, some}
-use Prim.Native.Nat.{ℕ, zero, suc, _+_, _-_, _≤_, _<_}
-use native.Mathlib.Decide.{decLt}
+use mathlib.Core.Option.{Option, none}
+use Prim.Native.Nat.{ℕ, suc, _+_, _-_, _≤_, _<_}
 use native.Mathlib.Omega.{arith}
-use borrow.Author.Tests.{le-ltb}
 use lib.Dec.{eqb, eqb→eq, eqb-refl}
 use lib.ListN.{length, getD, length-append, length-map, List·getD-append}
 use lib.Seq.{getD-append-add}
 use Rattle.pb.specs.Rules.{Token}
-use Rattle.pb.specs.Sum.{Sum, neg, Term}
+use Rattle.pb.specs.Sum.{Sum}
 use Rattle.memo.proofs.Lists.{flatMap-append, flatMap-agree}
 use Rattle.record.specs.Record.{Record, sum, derivation, clause, deletion, steps}
-use Rattle.record.specs.Steps.{names, definedFrom, Defined, written, derived, sumsAfter, stepSum, stepOf, defined}
-use Rattle.totdb.specs.Nodes.{Node, len, leaves, at, range, known, leaf, joined}
-use Rattle.cert.specs.Definitions.{realRecords, asWritten, atLeastZero, realIf, realOnlyIf, Key, windowIf, windowOnlyIf, windowIfSum, windowOnlyIfSum, keyRecords, definedBy, real, window-zero, window, pulls}
-use Rattle.cert.specs.Requests.{Clause, clauseTokens, Request}
+use Rattle.record.specs.Steps.{names, definedFrom, Defined, written, derived, sumsAfter, stepOf, defined}
+use Rattle.record.proofs.Steps.{sums-append, sums-grow, sums-length, step-known}
+use Rattle.totdb.specs.Nodes.{Node, len, at, known, leaf, joined}
+use Rattle.cert.specs.Counted.{Counted}
+use Rattle.cert.specs.Definitions.{Key, keyRecords, definedBy, pulls}
+use Rattle.cert.specs.Requests.{Clause, clauseTokens, Request, Right}
+use Rattle.cert.specs.Sized.{Sized}
 use Rattle.cert.specs.State.{State, keys, define, stepIn, write, hold, serve, start, Stored, requests, Head, storedSteps}
-use Rattle.cert.proofs.Apart.{Sized, Right, sized-ok}
-use Rattle.cert.proofs.Counts.{key-count, Counted, counted-start, defined-more}
+use Rattle.cert.proofs.Apart.{sized-ok}
+use Rattle.cert.proofs.Counts.{key-count, counted-start, defined-more}
 use Rattle.cert.proofs.Distinct.{Distinct, distinct-nil}
 use Rattle.cert.proofs.Fits.{KeyFits, request-falls, key-falls, looked-fit}
-use Rattle.cert.proofs.Known.{sumOf, knownOf, KnownIn, sums-length, sums-grow, sums-append, known-define, key-sums, known-more, Segment}
+use Rattle.cert.proofs.Known.{sumOf, knownOf, KnownIn, known-define, key-sums, known-more, Segment}
 use Rattle.cert.proofs.Serving.{define-keys, Asked, serve-keeps}
+use Rattle.cert.proofs.Shapes.{Shape, shape-done, shape-sum, shape-derived, key-shape}
+use Rattle.player.specs.Formed.{Sound}
 use Rattle.player.specs.Passes.{AllPassed}
 use Rattle.player.specs.Player.{make, firstNo, questions, act, delete}
 use Rattle.player.specs.declared.Command.{Command}
 use Rattle.player.proofs.Counts.{counted-act, all-keep}
 use Rattle.player.proofs.Different.{distinct-act}
-use Rattle.player.proofs.Sound.{Sound, request-fits, requests-asked, serve-nodes, requests-right, sound-start}
+use Rattle.player.proofs.Sound.{request-fits, requests-asked, serve-nodes, requests-right, sound-start}
 
 -- ---- names and definitions over more records
 
@@ -73,43 +76,7 @@ from-append sums all n (derivation ks ∷ rs) qs =
 from-append sums all n (clause s ls ∷ rs) qs = from-append sums all n rs qs
 from-append sums all n (deletion ss ∷ rs) qs = from-append sums all n rs qs
 
--- ---- the records of a key, one for each of its definitions
-
-data Shape : List Record → List Defined → Type 0 where
-  shape-done : Shape [] []
-  shape-sum : {w : ℕ} {ts : List Term} {b : ℕ} {rs : List Record} {ds : List Defined} → Shape rs ds → Shape (sum w ts b ∷ rs) (written w ts b ∷ ds)
-  shape-derived : {ks : List Token} {s : Option Sum} {rs : List Record} {ds : List Defined} → Shape rs ds
-      → Shape (derivation ks ∷ rs) (derived s ∷ ds)
-
-shape-append : {rs qs : List Record} {ds es : List Defined} → Shape rs ds → Shape qs es → Shape (rs ++ qs) (ds ++ es)
-shape-append shape-done q = q
-shape-append (shape-sum p) q = shape-sum (shape-append p q)
-shape-append (shape-derived p) q = shape-derived (shape-append p q)
-
-real-shape : (x : Node) (v : ℕ) → Shape (realRecords x v) (flatMap asWritten (realRecords x v))
-unfolding realRecords flatMap asWritten atLeastZero realIf realOnlyIf
-real-shape x zero = shape-sum shape-done
-real-shape x (suc v) = by (decLt (len x) (suc v))
-  where
-    by : (d : Dec (len x < suc v))
-        → Shape (dite {C = List Record} d (λ _. atLeastZero (map neg (leaves x)) ∷ []) (λ _. realIf x (suc v) ∷ realOnlyIf x (suc v) ∷ []))
-        (flatMap asWritten (dite {C = List Record} d (λ _. atLeastZero (map neg (leaves x)) ∷ [])
-        (λ _. realIf x (suc v) ∷ realOnlyIf x (suc v) ∷ [])))
-    by (yes p) = shape-sum shape-done
-    by (no p) = shape-sum (shape-sum shape-done)
-
-windows-shape : (f : Key → ℕ → ℕ) (n : ℕ) (x : Node) (o m : ℕ) (vs : List ℕ)
-    → Shape (flatMap {B = Record} (λ (v : ℕ). windowIf f n x o m v ∷ windowOnlyIf f n x o m v ∷ []) vs)
-    (flatMap {B = Defined} (λ (v : ℕ). derived (some (windowIfSum x o m v)) ∷ derived (some (windowOnlyIfSum x o m v)) ∷ []) vs)
-unfolding flatMap windowIf windowOnlyIf
-windows-shape f n x o m [] = shape-done
-windows-shape f n x o m (v ∷ vs) = shape-derived (shape-derived (windows-shape f n x o m vs))
-
-key-shape : (f : Key → ℕ → ℕ) (t : List Node) (k : Key) → Shape (keyRecords f t k) (definedBy t k)
-unfolding keyRecords definedBy atLeastZero
-key-shape f t (real n v) = real-shape (at t n) v
-key-shape f t (window-zero n o m) = shape-sum shape-done
-key-shape f t (window n o m) = shape-append (windows-shape f n (at t n) o m (range (o + 1) m)) (shape-sum shape-done)
+-- ---- the records of a key
 
 shape-names : {rs : List Record} {ds : List Defined} → Shape rs ds → (n : ℕ) → names n rs ≡ false
 unfolding names
@@ -378,11 +345,6 @@ pub all-told : {h : Head} {capacity : ℕ} {cs : List Command} {u : State} → A
 all-told {h} a = all-keep (Told h) (told-act h) a (sound-start h) (told-start h)
 
 -- The log itself is a future of its last state.
-pub step-known : (first : ℕ) (sums : List (Option Sum)) (j : ℕ) → stepSum first sums (first + j) ≡ getD sums j none
-unfolding stepSum
-step-known first sums j = let e : first + j - first ≡ j = omega arith in
-    rw (le-ltb (first + j) first (omega arith), stepSum) (ap (λ (i : ℕ). getD sums i none) e)
-
 future-now : (h : Head) (s : State) → Future h s (stepOf (h .step) (s .log)) (s .log)
 unfolding stepOf
 future-now h s = record { agree = λ j l. step-known (h .step) (knownOf h s) j; named = λ n l. refl }

@@ -1,27 +1,26 @@
 -- Accepted commands keep the variables of the table different: nodes stand under one join each.
 use mathlib.Core.Path.{_≡_, refl, sym, _∙_, ap, subst}
-use mathlib.Core.Bool.{Bool, true, false, _&&_, _||_, not as notb}
+use mathlib.Core.Bool.{Bool, true, false}
 use mathlib.Core.Logic.{_≢_, _⊎_, inl, inr, ⊎-elim}
 use mathlib.Core.List.{List, [], _∷_, _++_, List·Memᴰ, List·Memᴰ·not-nil, List·Memᴰ·append-cases, List·Memᴰ·eq-of-singleton, Memᴰ·of-map}
 use Prim.Native.Nat.{ℕ, zero, suc, _+_, _≤_, _<_}
 use native.Mathlib.Decide.{ℕ-discrete}
 use native.Mathlib.Omega.{arith}
-use borrow.Author.Tests.{ltb-true, not-true}
-use lib.Dec.{ltb}
 use lib.ListN.{length}
 use Rattle.pb.specs.Sum.{variable, neg}
 use Rattle.pb.proofs.Terms.{same-variable}
-use Rattle.totdb.specs.Nodes.{Node, len, at, output, leaf, taken, leaves, join, range, isOver, sideLeaves, sideLen, sideOutputs, outputs, plainOr, known, leafCount, joined}
+use Rattle.totdb.specs.Nodes.{Node, len, at, output, leaf, taken, leaves, join, range, isOver, sideLeaves, sideLen, sideOutputs, outputs, plainOr, known, joined}
 use Rattle.totdb.specs.declared.Side.{Side}
 use Rattle.cert.specs.State.{State, requests, Head}
 use Rattle.cert.proofs.Apart.{range-mem, sized-ok}
 use Rattle.cert.proofs.Distinct.{Different, different-append, LeftApart, Owner, Distinct, true≢false, or-left, or-right, owner-apart, old, distinct-snoc, shifted, higher}
 use Rattle.cert.proofs.Tables.{length-snoc, at-last, taken-snoc, over-left, over-right}
-use Rattle.player.specs.Player.{firstNo, questions, ask, act, make, delete}
+use Rattle.player.specs.Formed.{Sound}
+use Rattle.player.specs.Player.{firstNo, questions, act, make, delete}
 use Rattle.player.specs.declared.Command.{Command}
 use Rattle.player.proofs.Decoded.{output-low}
-use Rattle.player.proofs.Refusal.{and-true}
-use Rattle.player.proofs.Sound.{Sound, JoinFits, yes-then, leaf-new, join-fits, serve-nodes, requests-asked, request-fits}
+use Rattle.player.proofs.Sound.{JoinFits, leaf-new, join-fits, serve-nodes, requests-asked, request-fits}
+use Rattle.player.proofs.Questions.{leaf-low, leaf-apart}
 
 -- ---- a join
 
@@ -172,17 +171,6 @@ join-high-variable : (ls : List ℕ) (o : ℕ) (a b : Side) (i l v : ℕ) → va
 unfolding output variable
 join-high-variable ls o a b i l v h g x q = omega arith
 
--- What questions 6 and 7 say of a new literal.
-leaf-questions : (h : Head) (t : List Node) (l : ℕ) → firstNo (questions h t (Command.Leaf l)) ≡ 0 → known t l ≡ false → (variable l < h .variable)
-    × (known t (neg l) ≡ false)
-leaf-questions h t l q e =
-    let a = yes-then 6 (ltb (variable l) (h .variable)) (ask 7 (known t l || (notb (known t (neg l)) && ltb (leafCount t) 64)) ∷ []) (omega arith)
-    (unfold questions in q) in
-    let b = yes-then 7 (known t l || (notb (known t (neg l)) && ltb (leafCount t) 64)) [] (omega arith) (a .1) in
-    let c : (false || (notb (known t (neg l)) && ltb (leafCount t) 64)) ≡ true =
-    subst (λ (x : Bool). (x || (notb (known t (neg l)) && ltb (leafCount t) 64)) ≡ true) e (b .0) in
-    (ltb-true (variable l) (h .variable) (a .0), not-true (known t (neg l)) (and-true (notb (known t (neg l))) (ltb (leafCount t) 64) c .0))
-
 same-literal : (l m : ℕ) → variable m ≡ variable l → (m ≡ l) ⊎ (m ≡ neg l)
 same-literal l m e = by (ℕ-discrete m l)
   where
@@ -234,7 +222,7 @@ distinct-act h (Command.Leaf l) s q p d = by (known (s .nodes) l) refl
   where
     by : (b : Bool) → known (s .nodes) l ≡ b → Distinct ((elim b as (λ _. State) [ true ↦ s | false ↦ make (leaf l) 0 s ]) .nodes)
     by true e = d
-    by false e = let k = leaf-questions h (s .nodes) l q e in unfold make in distinct-leaf h s p d l (k .0) e (k .1)
+    by false e = unfold make in distinct-leaf h s p d l (leaf-low h (s .nodes) l q) e (leaf-apart h (s .nodes) l q e)
 distinct-act h (Command.Join l r) s q p d = unfold make joined in distinct-join h s p d l r (join-fits h (s .nodes) l r q)
 distinct-act h (Command.Request n v e) s q p d =
     let t = s .nodes in

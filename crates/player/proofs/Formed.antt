@@ -1,38 +1,27 @@
 -- What every command keeps of a state, and that question 13 is put in vain.
 use mathlib.Core.Path.{_≡_, sym, subst}
-use mathlib.Core.Bool.{Bool, true, false, _&&_}
-use mathlib.Core.Logic.{⊎-elim}
-use mathlib.Core.List.{List, [], _∷_, List·Memᴰ, List·Memᴰ·not-nil, List·Memᴰ·append-cases, List·Memᴰ·eq-of-singleton}
-use Prim.Native.Nat.{ℕ, _≤_}
-use borrow.Author.Tests.{leb-true}
-use lib.Dec.{leb}
+use mathlib.Core.Bool.{Bool, true, false}
+use mathlib.Core.Logic.{inl, inr, ⊎-elim}
+use mathlib.Core.List.{List, [], _∷_, List·Memᴰ·not-nil, List·Memᴰ·append-cases, List·Memᴰ·eq-of-singleton}
+use Prim.Native.Nat.{ℕ, _≤_, _<_}
+use native.Mathlib.Omega.{arith}
 use lib.ListN.{length, drop}
 use Rattle.totdb.specs.Nodes.{Node, leaf, joined, len, known}
-use Rattle.cert.specs.Requests.{Request}
+use Rattle.cert.specs.Requests.{Request, Right}
 use Rattle.cert.specs.State.{State, start, define, write, hold, requests, serve, Head}
-use Rattle.cert.proofs.Apart.{Right, sized-ok}
-use Rattle.cert.proofs.Counts.{Counted, counted-start}
+use Rattle.cert.proofs.Apart.{sized-ok}
+use Rattle.cert.proofs.Counts.{counted-start}
 use Rattle.cert.proofs.Fits.{KeyFits, key-falls, request-falls, looked-fit}
 use Rattle.cert.proofs.Serving.{serve-keeps}
 use Rattle.cert.proofs.Tables.{right-more}
+use Rattle.player.specs.Formed.{Sound, Held, Formed}
 use Rattle.player.specs.Player.{headFits, firstNo, questions, make, delete, act, anyLacks}
 use Rattle.player.specs.declared.Command.{Command}
 use Rattle.player.proofs.Counts.{counted-act}
 use Rattle.player.proofs.Offered.{offered}
-use Rattle.player.proofs.Refusal.{and-true}
-use Rattle.player.proofs.Sound.{Sound, sound-start, sound-act, request-fits, requests-asked, requests-right, serve-nodes}
-use Rattle.player.proofs.Tree.{Treed, treed-start, treed-act}
-
--- Every request that is held asks for a value of its node.
-abbrev pub Held : List Node → State → Type 0
-Held t s = (x : Request) → List·Memᴰ x (s .held) → Right t x
-
-pub record Formed (h : Head) (s : State) : Type 0 where
-  pub head : headFits h ≡ true
-  pub sound : Sound h s
-  pub treed : Treed h s
-  pub counted : Counted h s
-  pub held : Held (s .nodes) s
+use Rattle.player.proofs.Questions.{answered-no, OutOfRange, limits}
+use Rattle.player.proofs.Sound.{sound-start, sound-act, request-fits, requests-asked, requests-right, serve-nodes}
+use Rattle.player.proofs.Tree.{treed-start, treed-act}
 
 pub formed-start : (h : Head) → headFits h ≡ true → Formed h (start h)
 unfolding start
@@ -89,8 +78,10 @@ all-offered h c s q f = offered (act c s .nodes) (length (s .held)) (act c s .he
 
 -- The limits of the head.
 pub head-low : (h : Head) → headFits h ≡ true → (h .variable ≤ 1000000) × (1 ≤ h .step) × (h .step ≤ 1000000)
-unfolding headFits
 head-low h e =
-    let first = and-true (leb (h .variable) 1000000 && leb 1 (h .step)) (leb (h .step) 1000000) e in
-    let both = and-true (leb (h .variable) 1000000) (leb 1 (h .step)) (first .0) in
-    (leb-true (h .variable) 1000000 (both .0), leb-true 1 (h .step) (both .1), leb-true (h .step) 1000000 (first .1))
+    let inside : OutOfRange (h .variable) (h .step) → ⊥ =
+    λ o. let k : headFits h ≡ false = answered-no (limits h) o in let z : _≡_ {A = ℕ} 0 1 = cc in omega arith in
+    let i : ¬ (1000000 < h .variable) = λ l. inside (inl l) in
+    let j : ¬ (h .step < 1) = λ l. inside (inr (inl l)) in
+    let k : ¬ (1000000 < h .step) = λ l. inside (inr (inr l)) in
+    (omega (arith, i), omega (arith, j), omega (arith, k))

@@ -1,12 +1,12 @@
 -- Facts alike at several lengths, for a general one: values, windows, leaves and the log's length at their limits.
 use mathlib.Core.Path.{_≡_, refl, sym, _∙_, ap, subst}
-use mathlib.Core.Bool.{Bool, true, false, _&&_, not as notb}
+use mathlib.Core.Bool.{Bool, true, false, _&&_}
 use mathlib.Core.Logic.{_≢_}
 use mathlib.Core.List.{List, [], _∷_, _++_, map, flatMap}
 use Prim.Native.Nat.{ℕ, suc, _+_, _-_, _*_, _≤_, _<_}
 use native.Mathlib.Omega.{arith}
-use borrow.Author.Tests.{lt-ltb, le-ltb, le-leb, lt-leb, eq-eqb, ne-eqb, ltb-true, leb-true, leb-false, eqb-true}
-use lib.Dec.{leb, ltb, eqb}
+use borrow.Author.Tests.{lt-ltb, le-ltb, le-leb, lt-leb, ne-eqb, leb-true, leb-false}
+use lib.Dec.{leb, ltb}
 use lib.ListN.{length, take, replicate, length-append}
 use lib.Seq.{take-append-seam}
 use Rattle.number.specs.Number.{encode}
@@ -20,14 +20,17 @@ use Rattle.cert.specs.Requests.{clauseTokens}
 use Rattle.cert.specs.State.{State, start, stepIn, define, write, hold, requests, Head, storedSteps}
 use Rattle.cert.proofs.Apart.{sized-ok}
 use Rattle.cert.proofs.Serving.{serve-in}
+use Rattle.player.specs.Formed.{Sound}
 use Rattle.player.specs.Passes.{AllPassed, all-done, all-more, Passes}
 use Rattle.player.specs.Player.{firstNo, ask, sideFits, questions, make, delete, act, plays, Outcome, outcome, mostBytes, played}
 use Rattle.player.specs.Script.{Commands}
+use Rattle.player.specs.Verdict.{OffNode, offset-high, limit-high, covering}
 use Rattle.player.specs.declared.Command.{Command}
 use Rattle.player.proofs.Counts.{all-keep}
+use Rattle.player.proofs.Questions.{answered-no, answered-yes, side-answer}
 use Rattle.player.proofs.Refusal.{play-fits, play-full, plays-done, plays-accepted, plays-refused, outcome-number, start-empty}
 use Rattle.player.proofs.Scripts.{accepted-reads, passes-plays, passes-is}
-use Rattle.player.proofs.Sound.{Sound, sound-start, sound-act, request-fits, requests-asked}
+use Rattle.player.proofs.Sound.{sound-start, sound-act, request-fits, requests-asked}
 
 -- ---- the value of a request
 
@@ -55,42 +58,22 @@ pub record Free (t : List Node) (l r : Side) : Type 0 where
   pub left-free : taken t (l .node) ≡ false
   pub right-free : taken t (r .node) ≡ false
 
--- A side that question 10 lets pass, and one that it does not.
+-- A side that question 10 lets pass.
 pub record Inside (t : List Node) (s : Side) : Type 0 where
   pub below : s .offset < len (at t (s .node))
   pub within : s .offset + s .limit ≤ len (at t (s .node))
   pub not-whole : s .offset ≡ 0 → s .limit ≢ len (at t (s .node))
 
-pub data Outside (t : List Node) (s : Side) : Type 0 where
-  offset-high : len (at t (s .node)) ≤ s .offset → Outside t s
-  limit-high : len (at t (s .node)) < s .offset + s .limit → Outside t s
-  whole : s .offset ≡ 0 → s .limit ≡ len (at t (s .node)) → Outside t s
-
 inside : (t : List Node) (s : Side) → Inside t s → sideFits t s ≡ true
-unfolding sideFits
-inside t s i =
-    let n : ℕ = len (at t (s .node)) in
-    rw (lt-ltb (s .offset) n (i .below), le-leb (s .limit) (n - s .offset) (omega (arith, i .within))) (hidden (eqb (s .offset) 0) refl)
+inside t s i = answered-yes (side-answer t s) by
   where
-    hidden : (b : Bool) → eqb (s .offset) 0 ≡ b → notb (b && eqb (s .limit) (len (at t (s .node)))) ≡ true
-    hidden false e = refl
-    hidden true e = rw (ne-eqb (s .limit) (len (at t (s .node))) (i .not-whole (eqb-true (s .offset) 0 e)))
+    by : OffNode t s → ⊥
+    by (offset-high l) = omega (arith, i .below)
+    by (limit-high l) = omega (arith, i .within)
+    by (covering e f) = i .not-whole e f
 
-outside : (t : List Node) (s : Side) → Outside t s → sideFits t s ≡ false
-unfolding sideFits
-outside t s (offset-high h) = rw (le-ltb (s .offset) (len (at t (s .node))) h)
-outside t s (limit-high h) = by (ltb (s .offset) (len (at t (s .node)))) refl
-  where
-    by : (b : Bool) → ltb (s .offset) (len (at t (s .node))) ≡ b → sideFits t s ≡ false
-    by false e = rw e
-    by true e = rw (e, lt-leb (s .limit) (len (at t (s .node)) - s .offset) (omega (arith, ltb-true (s .offset) (len (at t (s .node))) e)))
-outside t s (whole e f) =
-    rw (eq-eqb (s .offset) 0 e, eq-eqb (s .limit) (len (at t (s .node))) f)
-    (last-no (ltb (s .offset) (len (at t (s .node))) && leb (s .limit) (len (at t (s .node)) - s .offset)))
-  where
-    last-no : (b : Bool) → (b && false) ≡ false
-    last-no true = refl
-    last-no false = refl
+outside : (t : List Node) (s : Side) → OffNode t s → sideFits t s ≡ false
+outside t s o = answered-no (side-answer t s) o
 
 module _ (h : Head) (t : List Node) (l r : Side) (free : Free t l r) where
   pub asked-ten : firstNo (questions h t (Command.Join l r)) ≡ firstNo (ask 10 (sideFits t l && sideFits t r) ∷ [])
@@ -104,11 +87,11 @@ module _ (h : Head) (t : List Node) (l r : Side) (free : Free t l r) where
   unfolding firstNo
   sides-inside i j = asked-ten ∙ rw (inside t l i, inside t r j)
 
-  pub left-outside : Outside t l → firstNo (questions h t (Command.Join l r)) ≡ 10
+  pub left-outside : OffNode t l → firstNo (questions h t (Command.Join l r)) ≡ 10
   unfolding firstNo
   left-outside o = asked-ten ∙ rw (outside t l o)
 
-  pub right-outside : Outside t r → firstNo (questions h t (Command.Join l r)) ≡ 10
+  pub right-outside : OffNode t r → firstNo (questions h t (Command.Join l r)) ≡ 10
   unfolding firstNo
   right-outside o = asked-ten ∙ rw (outside t r o) (by (sideFits t l))
     where
@@ -300,7 +283,7 @@ met-left = left-outside ten three (side 5 1 3) (side 3 0 0) (free-three 1 3 0 0)
 
 met-right : firstNo (questions ten three (Command.Join (side 5 0 0) (side 3 0 1))) ≡ 10
 unfolding three len at leaves side
-met-right = right-outside ten three (side 5 0 0) (side 3 0 1) (free-three 0 0 0 1) (whole refl refl)
+met-right = right-outside ten three (side 5 0 0) (side 3 0 1) (free-three 0 0 0 1) (covering refl refl)
 
 met-few : firstNo (questions ten three (Command.Leaf 8)) ≡ 0
 unfolding three variable neg known leafCount ten

@@ -1,4 +1,5 @@
 -- Theorems about scripts and the player.
+pub mod Questions
 pub mod Reading
 pub mod Places
 pub mod Coding
@@ -13,10 +14,18 @@ pub mod Decoded
 pub mod Different
 pub mod Defines
 pub mod ClauseSteps
+pub mod Records
 pub mod Matching
+pub mod Nodes
+pub mod ScriptCases
 pub mod Numbers
 pub mod Lengths
 pub mod Answers
-pub mod Verdicts
+pub mod Commands
 pub mod Offered
 pub mod Formed
+pub mod Fronts
+pub mod Endings
+pub mod Judged
+pub mod Accepted
+pub mod VerdictCases

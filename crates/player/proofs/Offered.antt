@@ -9,9 +9,10 @@ use native.Mathlib.Omega.{arith}
 use lib.ListN.{drop}
 use Rattle.totdb.specs.Nodes.{Node, leaf, join, at, len, any, sideLen, sideLit}
 use Rattle.totdb.specs.declared.Side.{Side}
-use Rattle.cert.specs.Definitions.{Direction, if, only-if, real, window, stored, lacking, oneDef, realDef, windowDef, longDef, sideDef}
-use Rattle.cert.specs.Requests.{Request, request, Clause, ifClause, onlyIfClause, splits, clausesOf, clausesAt, lacks, lacksOne}
-use Rattle.cert.proofs.Apart.{Right, splits-mem}
+use Rattle.cert.specs.Definitions.{Direction, Definition, if, only-if, real, stored, lacking, oneDef, realDef, windowDef, sideDef}
+use Rattle.cert.specs.Requests.{Request, request, Clause, ifClause, onlyIfClause, splits, clausesOf, clausesAt, lacks, lacksOne, Right}
+use Rattle.cert.proofs.Apart.{splits-mem}
+use Rattle.cert.proofs.Keyed.{KeyOf, by-form, only-if-zero, if-above, only-if-above}
 use Rattle.player.specs.Player.{anyLacks}
 
 any-none : {A : Type 0} (f : A → Bool) (l : List A) → ((a : A) → List·Memᴰ a l → f a ≡ false) → any f l ≡ false
@@ -40,31 +41,15 @@ module _ (m n : ℕ) where
       by (yes p) = refl
       by (no p) = absurd (p h)
 
-  window-if-has : (f i : ℕ) → 1 ≤ i → lacks (windowDef n f m i if) ≡ false
-  unfolding windowDef lacks
-  window-if-has f zero h = absurd (omega arith)
-  window-if-has f (suc i) h = refl
+window-if-has : (n f m i v : ℕ) → KeyOf f i v → 1 ≤ i → lacks (windowDef n f m v if) ≡ false
+unfolding lacks
+window-if-has n f m zero v k h = absurd (omega arith)
+window-if-has n f m (suc i) v k h = rw (if-above n f m i v k)
 
-  window-only-has : (f i : ℕ) → i ≤ m → lacks (windowDef n f m i only-if) ≡ false
-  unfolding windowDef lacks
-  window-only-has f zero h = refl
-  window-only-has f (suc i) h = by (decLe (suc i) m)
-    where
-      by : (d : Dec (suc i ≤ m)) → lacks (dite d (λ _. stored (window n f m) (2 * i + 2)) (λ _. lacking)) ≡ false
-      by (yes p) = refl
-      by (no p) = absurd (p h)
-
-  long-if-has : (f k i : ℕ) → 1 ≤ i → lacks (longDef m n f k i if) ≡ false
-  unfolding longDef
-  long-if-has zero zero i h = real-if-has i h
-  long-if-has zero (suc k) i h = window-if-has zero i h
-  long-if-has (suc f) k i h = window-if-has (suc f) i h
-
-  long-only-has : (f k i : ℕ) → i ≤ m → lacks (longDef m n f k i only-if) ≡ false
-  unfolding longDef
-  long-only-has zero zero i h = real-only-has i h
-  long-only-has zero (suc k) i h = window-only-has zero i h
-  long-only-has (suc f) k i h = window-only-has (suc f) i h
+window-only-has : (n f m i v : ℕ) → KeyOf f i v → i ≤ m → lacks (windowDef n f m v only-if) ≡ false
+unfolding lacks
+window-only-has n f m zero v k h = rw (only-if-zero n f m v k)
+window-only-has n f m (suc i) v k h = rw (only-if-above n f m i v k h)
 
 one-if-has : (o i : ℕ) → 1 ≤ i → lacks (oneDef o i if) ≡ false
 unfolding oneDef lacks
@@ -80,22 +65,14 @@ one-only-has o (suc (suc i)) h = absurd (omega arith)
 
 module _ (t : List Node) (s : Side) (i : ℕ) where
   pub side-if-has : 1 ≤ i → lacks (sideDef t s i if) ≡ false
-  unfolding sideDef
-  side-if-has h = by (decLe (sideLen t s) 1)
-    where
-      by : (d : Dec (sideLen t s ≤ 1))
-          → lacks (dite d (λ _. oneDef (sideLit t s 1) i if) (λ _. longDef (sideLen t s) (s .node) (s .offset) (s .limit) i if)) ≡ false
-      by (yes p) = one-if-has (sideLit t s 1) i h
-      by (no p) = long-if-has (sideLen t s) (s .node) (s .offset) (s .limit) i h
+  side-if-has h =
+      by-form (λ (e : Definition). lacks e ≡ false) t s i if (λ _. one-if-has (sideLit t s 1) i h)
+      (λ _ _ _. real-if-has (sideLen t s) (s .node) i h) (λ _ _ v k. window-if-has (s .node) (s .offset) (sideLen t s) i v k h)
 
   pub side-only-has : i ≤ sideLen t s → lacks (sideDef t s i only-if) ≡ false
-  unfolding sideDef
-  side-only-has h = by (decLe (sideLen t s) 1)
-    where
-      by : (d : Dec (sideLen t s ≤ 1))
-          → lacks (dite d (λ _. oneDef (sideLit t s 1) i only-if) (λ _. longDef (sideLen t s) (s .node) (s .offset) (s .limit) i only-if)) ≡ false
-      by (yes p) = one-only-has (sideLit t s 1) i (omega arith)
-      by (no p) = long-only-has (sideLen t s) (s .node) (s .offset) (s .limit) i h
+  side-only-has h =
+      by-form (λ (e : Definition). lacks e ≡ false) t s i only-if (λ p. one-only-has (sideLit t s 1) i (omega arith))
+      (λ _ _ _. real-only-has (sideLen t s) (s .node) i h) (λ _ _ v k. window-only-has (s .node) (s .offset) (sideLen t s) i v k h)
 
 none-lacks : (c : Clause) → lacks (c .left) ≡ false → lacks (c .right) ≡ false → lacks (c .this) ≡ false → lacksOne c ≡ false
 unfolding lacksOne

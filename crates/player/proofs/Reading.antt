@@ -1,5 +1,4 @@
 -- A script is read from the front: what a command takes does not depend on the bytes after it.
--- So a script cut after some of its commands reads as those.
 use mathlib.Core.Path.{_≡_, refl, sym, _∙_, ap}
 use mathlib.Core.Bool.{Bool, true, false}
 use mathlib.Core.List.{List, [], _∷_, _++_, append-assoc}
@@ -8,7 +7,7 @@ use native.Mathlib.Omega.{arith}
 use lib.Dec.{ltb}
 use lib.ListN.{length, take, length-append}
 use Rattle.number.specs.Number.{groups, Front, number, bad, above, readIn, read}
-use Rattle.player.specs.Script.{Next, command, refuse, get, arguments, readCommand, readCommands, closes, before, Commands, stop, end}
+use Rattle.player.specs.Script.{Next, command, refuse, get, arguments, readCommand}
 use Rattle.player.specs.declared.Command.{Command}
 
 -- What a number takes from the front: it reads the same before any other bytes.
@@ -102,49 +101,3 @@ command-front closed (b ∷ bs) c rest e = by (local-code closed (b ∷ bs) c re
             → (front : List ℕ) × (b ∷ bs ≡ front ++ rest) × (0 < length front) × ((r : List ℕ) → readCommand closed (front ++ r) ≡ command c r)
         go [] q h = absurd (let k = h [] in let z : _≡_ {A = ℕ} 0 1 = cc in omega arith)
         go (a ∷ front) q h = (a ∷ front, q, omega arith, h)
-
--- One command before others, whatever the fuel.
-commands-before : (closed : Bool) (c : Command) (front pre : List ℕ) (l : List Command) → 0 < length front
-    → ((r : List ℕ) → readCommand closed (front ++ r) ≡ command c r)
-    → ((j : ℕ) → length pre ≤ j → readCommands j (closes c) pre ≡ record { list = l; ending = 0 })
-    → (j : ℕ) → length front + length pre ≤ j → readCommands j closed (front ++ pre) ≡ record { list = c ∷ l; ending = 0 }
-unfolding readCommands before
-commands-before closed c front pre l some e h zero g = absurd (omega arith)
-commands-before closed c front pre l some e h (suc j) g = rw (e pre, readCommands) (ap (before c) (h j (omega arith)))
-
-abbrev cutAt : ℕ → Commands → Commands
-cutAt i cs = record { list = take i (cs .list); ending = 0 }
-
--- A script cut after i of the commands that read.
-pub commands-cut : (k : ℕ) (closed : Bool) (bs : List ℕ) (i : ℕ) → i ≤ length (readCommands k closed bs .list)
-    → (pre : List ℕ) × (suf : List ℕ) × (bs ≡ pre ++ suf)
-    × ((j : ℕ) → length pre ≤ j → readCommands j closed pre ≡ record { list = take i (readCommands k closed bs .list); ending = 0 })
-unfolding readCommands before stop
-commands-cut k closed bs zero h = ([], bs, refl, none)
-  where
-    none : (j : ℕ) → 0 ≤ j → readCommands j closed [] ≡ record { list = []; ending = 0 }
-    none zero l = refl
-    none (suc j) l = refl
-commands-cut zero closed bs (suc i) h = absurd (omega arith)
-commands-cut (suc k) closed bs (suc i) h = by (readCommand closed bs) refl (λ d rest. commands-cut k d rest i)
-  where
-    by : (t : Next) → readCommand closed bs ≡ t
-        → ((d : Bool) (rest : List ℕ) → i ≤ length (readCommands k d rest .list) → (pre : List ℕ) × (suf : List ℕ) × (rest ≡ pre ++ suf)
-        × ((j : ℕ) → length pre ≤ j → readCommands j d pre ≡ record { list = take i (readCommands k d rest .list); ending = 0 }))
-        → (pre : List ℕ) × (suf : List ℕ) × (bs ≡ pre ++ suf)
-        × ((j : ℕ) → length pre ≤ j
-        → readCommands j closed pre ≡ record { list = take (suc i) (readCommands (suc k) closed bs .list); ending = 0 })
-    by (refuse n) e ih = absurd (omega (arith, rw (e, readCommands) at h))
-    by end e ih = absurd (omega (arith, rw (e, readCommands) at h))
-    by (command c rest) e ih =
-        let p = command-front closed bs c rest e in
-        let g : suc i ≤ suc (length (readCommands k (closes c) rest .list)) = rw (e, readCommands) at h in
-        let q = ih (closes c) rest (omega arith) in
-        let eq : readCommands (suc k) closed bs ≡ before c (readCommands k (closes c) rest) = rw (e, readCommands) in (
-          p .0 ++ q .0,
-          q .1,
-          p .1 ∙ ap (λ (l : List ℕ). p .0 ++ l) (q .2)
-              ∙ sym (append-assoc (p .0) (q .0) (q .1)),
-          λ j l. commands-before closed c (p .0) (q .0) (take i (readCommands k (closes c) rest .list))
-              (p .2) (p .3) (q .3) j (omega (arith, length-append (p .0) (q .0))) ∙ ap (cutAt (suc i)) (sym eq),
-        )

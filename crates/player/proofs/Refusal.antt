@@ -1,5 +1,4 @@
--- The log is as long as the capacity and has zeros from its length on. Where a command is refused, the log and the last four numbers
--- are those of the script cut before that command.
+-- What a play comes to, by cases: one command, a list of commands, a whole script; the log is as long as the capacity and has zeros from its length on.
 use mathlib.Core.Path.{_≡_, refl, sym, _∙_, ap, subst}
 use mathlib.Core.Bool.{Bool, true, false, _&&_, not as notb}
 use mathlib.Core.List.{List, [], _∷_, _++_, append-assoc}
@@ -13,10 +12,9 @@ use Rattle.number.specs.Number.{number, read, Front, bad}
 use Rattle.record.specs.Record.{bytes}
 use Rattle.cert.specs.State.{State, start, Head}
 use Rattle.player.specs.Passes.{Passed}
-use Rattle.player.specs.Player.{verdict, accepted, refused, firstNo, ask, questions, act, anyLacks, lastQuestions, play, Result, plays, outcome, ended, Outcome, refusedAtHead, headFits, playScript, mostBytes, played, Padded, unrefused}
+use Rattle.player.specs.Player.{verdict, accepted, refused, firstNo, ask, questions, act, anyLacks, lastQuestions, play, Result, plays, outcome, ended, refusedAtHead, headFits, playScript, mostBytes, played, Padded}
 use Rattle.player.specs.Script.{Commands, script, headless, readScript, Script, readCommands}
 use Rattle.player.specs.declared.Command.{Command}
-use Rattle.player.proofs.Reading.{read-front, commands-cut}
 
 -- ---- an accepted command
 
@@ -114,42 +112,6 @@ pub outcome-place : (capacity n p : ℕ) (s : State) → outcome capacity n p s 
 unfolding outcome
 outcome-place capacity n p s = refl
 
-outcome-unrefused : (capacity n p q : ℕ) (s : State) → unrefused q (outcome capacity n p s) ≡ outcome capacity 0 q s
-unfolding outcome unrefused
-outcome-unrefused capacity n p q s = refl
-
-abbrev Cut : (h : Head) (capacity : ℕ) (cs : List Command) (p : ℕ) (s : State) (q : ℕ) → Outcome → Type 0
-Cut h capacity cs p s q o = (p ≤ q) × (q ≤ p + length cs) × (plays h capacity 0 (take (q - p) cs) p s ≡ unrefused q o)
-
-cut-here : (h : Head) (capacity n : ℕ) (cs : List Command) (p : ℕ) (s : State) (q : ℕ) (o : Outcome) → o ≡ outcome capacity n (suc p) s
-    → o .place ≡ suc q → Cut h capacity cs p s q o
-cut-here h capacity n cs p s q o k f =
-    let e : q ≡ p = omega (arith, outcome-place capacity n (suc p) s, ap (λ (x : Outcome). x .place) k) in
-    let z : q - p ≡ 0 = omega arith in
-    (omega arith, omega arith, rw (k, z) (plays-done h capacity 0 p s ∙ rw e (sym (outcome-unrefused capacity n (suc p) p s))))
-
-cut-later : (h : Head) (capacity : ℕ) (c : Command) (cs : List Command) (p : ℕ) (s u : State) (q : ℕ) (o : Outcome) → play h capacity c s ≡ accepted u
-    → Cut h capacity cs (suc p) u q o → Cut h capacity (c ∷ cs) p s q o
-cut-later h capacity c cs p s u q o k r =
-    let z : q - p ≡ suc (q - suc p) = omega (arith, r .0) in
-    (omega (arith, r .0), omega (arith, r .1), rw z (plays-accepted h capacity 0 c (take (q - suc p) cs) p s u k ∙ r .2))
-
-plays-cut : (h : Head) (capacity ending : ℕ) (cs : List Command) (p : ℕ) (s : State) (n q : ℕ) → plays h capacity ending cs p s .number ≡ suc n
-    → plays h capacity ending cs p s .place ≡ suc q
-    → Cut h capacity cs p s q (plays h capacity ending cs p s)
-plays-cut h capacity zero [] p s n q e f = absurd (omega (arith, outcome-number capacity 0 p s, rw plays-done at e))
-plays-cut h capacity (suc m) [] p s n q e f = cut-here h capacity (suc m) [] p s q _ (plays-ended h capacity 0 m p s) f
-plays-cut h capacity ending (c ∷ cs) p s n q e f = by (play h capacity c s) refl (λ u. plays-cut h capacity ending cs (suc p) u n q)
-  where
-    by : (r : Result) → play h capacity c s ≡ r
-        → ((u : State) → plays h capacity ending cs (suc p) u .number ≡ suc n → plays h capacity ending cs (suc p) u .place ≡ suc q
-        → Cut h capacity cs (suc p) u q (plays h capacity ending cs (suc p) u))
-        → Cut h capacity (c ∷ cs) p s q (plays h capacity ending (c ∷ cs) p s)
-    by (refused m) k ih = cut-here h capacity m (c ∷ cs) p s q _ (plays-refused h capacity ending c cs p s m k) f
-    by (accepted u) k ih =
-        let z = plays-accepted h capacity ending c cs p s u k in
-        rw z (cut-later h capacity c cs p s u q (plays h capacity ending cs (suc p) u) k (ih u (rw z at e) (rw z at f)))
-
 -- ---- the log: as long as the capacity, zeros from the length on
 
 outcome-padded : (capacity n p : ℕ) (s : State) → length (bytes (s .log)) ≤ capacity → Padded capacity (outcome capacity n p s)
@@ -222,23 +184,17 @@ module _ (capacity : ℕ) where
       by true e = rw (played-true bs e) (script-padded (readScript bs))
       by false e = rw (played-false bs e) (head-padded capacity 1)
 
--- ---- the law for bytes
+-- ---- reading
 
 pub and-true : (a b : Bool) → (a && b) ≡ true → (a ≡ true) × (b ≡ true)
 and-true true true e = (refl, refl)
 and-true true false e = absurd (let z : _≡_ {A = ℕ} 0 1 = cc in omega arith)
 and-true false b e = absurd (let z : _≡_ {A = ℕ} 0 1 = cc in omega arith)
 
-leb-less : (m n k : ℕ) → n ≤ m → leb m k ≡ true → leb n k ≡ true
-leb-less m n k h e = le-leb n k (omega (arith, leb-true m k e))
-
 pub script-is : (bs : List ℕ) (v : ℕ) (r : List ℕ) (s : ℕ) (t : List ℕ) → read bs ≡ number v r → read r ≡ number s t
     → readScript bs ≡ script (record { variable = v; step = s }) (readCommands (length t) false t)
 unfolding readScript
 script-is bs v r s t e f = rw (e, readScript) (rw f)
-
-three-fronts : (x a b c d r q : List ℕ) → x ≡ a ++ r → r ≡ b ++ q → q ≡ c ++ d → x ≡ (a ++ (b ++ c)) ++ d
-three-fronts x a b c d r q e f g = rw (e, f, g) (simp append-assoc)
 
 -- The two numbers of a head that reads.
 pub record HeadRead (bs : List ℕ) (h : Head) (cs : Commands) : Type 0 where
@@ -270,62 +226,3 @@ head-read bs h cs e = by (read bs) refl
               two = rw (← k .0) q;
               rest = k .1;
             }
-
-head-place : (capacity n : ℕ) → refusedAtHead capacity n .place ≡ 0
-unfolding refusedAtHead outcome
-head-place capacity n = refl
-
--- Demand 1, the records: those of the commands before the refused one.
-module _ (capacity : ℕ) (bs : List ℕ) (n q : ℕ) where
-  abbrev pub CutBefore : Type 0
-  CutBefore = (pre : List ℕ) × (suf : List ℕ) × (bs ≡ pre ++ suf) × (played pre capacity ≡ unrefused q (played bs capacity))
-
-  cut-read : (h : Head) (cs : Commands) → (leb (length bs) mostBytes && leb capacity mostBytes) ≡ true → headFits h ≡ true → HeadRead bs h cs
-      → played bs capacity ≡ plays h capacity (cs .ending) (cs .list) 0 (start h)
-      → played bs capacity .number ≡ suc n → played bs capacity .place ≡ suc q → CutBefore
-  cut-read h cs small fits r whole e f =
-      let c = plays-cut h capacity (cs .ending) (cs .list) 0 (start h) n q (rw whole at e) (rw whole at f) in
-      let p = read-front bs (h .variable) (r .after-one) (r .one) in
-      let s = read-front (r .after-one) (h .step) (r .after-two) (r .two) in
-      let t = commands-cut (length (r .after-two)) false (r .after-two) q (rw (r .rest) (omega (arith, c .1))) in
-      let pre : List ℕ = p .0 ++ (s .0 ++ t .0) in
-      let join : bs ≡ pre ++ t .1 = three-fronts bs (p .0) (s .0) (t .0) (t .1) (r .after-one) (r .after-two) (p .1) (s .1) (t .2) in
-      let shorter : length pre ≤ length bs = omega (arith, length-append pre (t .1), ap length join) in
-      let b = and-true (leb (length bs) mostBytes) (leb capacity mostBytes) small in
-      let still : (leb (length pre) mostBytes && leb capacity mostBytes) ≡ true =
-      rw (leb-less (length bs) (length pre) mostBytes shorter (b .0), b .1) in
-      let reads : readScript pre ≡ script h (record { list = take q (cs .list); ending = 0 }) =
-      script-is pre (h .variable) (s .0 ++ t .0) (h .step) (t .0) (p .2 (s .0 ++ t .0)) (s .2 (t .0))
-      ∙ ap (script h) (t .3 (length (t .0)) (omega arith) ∙ rw (r .rest)) in
-      let same : q - 0 ≡ q = omega arith in
-      let last : plays h capacity 0 (take q (cs .list)) 0 (start h) ≡ unrefused q (plays h capacity (cs .ending) (cs .list) 0 (start h)) =
-      subst (λ (i : ℕ). plays h capacity 0 (take i (cs .list)) 0 (start h) ≡ unrefused q
-      (plays h capacity (cs .ending) (cs .list) 0 (start h))) same (c .2) in (
-        pre,
-        t .1,
-        join,
-        played-true capacity pre still ∙ ap (playScript capacity) reads
-            ∙ script-true capacity h (record { list = take q (cs .list); ending = 0 }) fits ∙ last ∙ ap (unrefused q) (sym whole),
-      )
-
-  pub refusal : played bs capacity .number ≡ suc n → played bs capacity .place ≡ suc q → CutBefore
-  refusal e f = by (leb (length bs) mostBytes && leb capacity mostBytes) refl
-    where
-      by : (b : Bool) → (leb (length bs) mostBytes && leb capacity mostBytes) ≡ b → CutBefore
-      by false small = absurd (omega (arith, rw (played-false capacity bs small) at f, head-place capacity 1))
-      by true small = go (readScript bs) refl
-        where
-          go : (r : Script) → readScript bs ≡ r → CutBefore
-          go headless k =
-              let z : played bs capacity ≡ refusedAtHead capacity 2 = played-true capacity bs small ∙ ap (playScript capacity) k
-              ∙ script-headless capacity in
-              absurd (omega (arith, rw z at f, head-place capacity 2))
-          go (script h cs) k = at-head (headFits h) refl
-            where
-              at-head : (b : Bool) → headFits h ≡ b → CutBefore
-              at-head false fits =
-                  let z : played bs capacity ≡ refusedAtHead capacity 3 = played-true capacity bs small ∙ ap (playScript capacity) k
-                  ∙ script-false capacity h cs fits in
-                  absurd (omega (arith, rw z at f, head-place capacity 3))
-              at-head true fits = cut-read h cs small fits (head-read bs h cs k)
-                  (played-true capacity bs small ∙ ap (playScript capacity) k ∙ script-true capacity h cs fits) e f

@@ -2,7 +2,7 @@
 use mathlib.Core.Path.{_≡_, refl, sym, _∙_, ap, subst}
 use mathlib.Core.Bool.{Bool, true, false}
 use mathlib.Core.Logic.{⊎-elim}
-use mathlib.Core.List.{List, [], _∷_, _++_, append-nil, List·Memᴰ, List·Memᴰ·not-nil, List·Memᴰ·append-cases}
+use mathlib.Core.List.{List, [], _∷_, _++_, append-nil, List·Memᴰ, List·Memᴰ·head, List·Memᴰ·tail, List·Memᴰ·not-nil, List·Memᴰ·cases-cons, List·Memᴰ·append-cases, Memᴰ·append-left, Memᴰ·append-right}
 use Prim.Native.Nat.{ℕ, zero, suc, _+_}
 use native.Mathlib.Omega.{arith}
 use lib.ListN.{length}
@@ -13,18 +13,20 @@ use Rattle.record.specs.Record.{clauses, deletion}
 use Rattle.totdb.specs.Nodes.{Node, known, joined, len, leaf}
 use Rattle.totdb.specs.declared.Side.{Side}
 use Rattle.cert.specs.Definitions.{Key}
-use Rattle.cert.specs.Requests.{Request}
+use Rattle.cert.specs.Requests.{Request, Names, Right}
 use Rattle.cert.specs.State.{requests, State, keys, serve, Head, storedSteps}
-use Rattle.cert.proofs.Apart.{Right, sized-ok}
+use Rattle.cert.proofs.Apart.{sized-ok}
+use Rattle.cert.proofs.Names.{requests-from, requests-has}
 use Rattle.cert.proofs.Rules.{counters}
 use Rattle.cert.proofs.Serving.{view, clauses-append, serve-step}
 use Rattle.cert.proofs.Tables.{right-more}
-use Rattle.player.specs.Called.{makes, asked, build}
-use Rattle.player.specs.Passes.{AllPassed, all-done, all-more}
+use Rattle.player.specs.Called.{makes, Asked, build}
+use Rattle.player.specs.Formed.{Sound}
+use Rattle.player.specs.Passes.{Passed, AllPassed, all-done, all-more}
 use Rattle.player.specs.Player.{plays, outcome, play, Result, refused, accepted, make, delete, firstNo, questions, act}
 use Rattle.player.specs.declared.Command.{Command}
 use Rattle.player.proofs.Refusal.{passed-fits, play-fits, plays-done, outcome-number, plays-ended, play-refused, plays-refused, plays-accepted, play-passed}
-use Rattle.player.proofs.Sound.{Sound, RequestFits, requests-asked, serve-nodes, requests-right, request-fits, sound-act}
+use Rattle.player.proofs.Sound.{RequestFits, requests-asked, serve-nodes, requests-right, request-fits, sound-act}
 
 pub build-makes : (cs : List Command) (t : List Node) (o : ℕ) → build cs t o ≡ build (makes cs) t o
 unfolding build makes
@@ -39,6 +41,46 @@ build-makes (Command.Join l r ∷ cs) t o = build-makes cs _ _
 build-makes (Command.Request n v d ∷ cs) t o = build-makes cs t o
 build-makes (Command.Close ∷ cs) t o = build-makes cs t o
 
+-- ---- the requests named, as a list
+
+unfoldable pub asked : List Command → List Request
+unfolding requests
+asked [] = []
+asked (Command.Leaf l ∷ cs) = asked cs
+asked (Command.Join l r ∷ cs) = asked cs
+asked (Command.Request n v d ∷ cs) = requests n v d ++ asked cs
+asked (Command.Close ∷ cs) = asked cs
+
+later : {c : Command} {cs : List Command} {x : Request} → Asked cs x → Asked (c ∷ cs) x
+later (n, v, d, m, k) = (n, v, d, List·Memᴰ·tail m, k)
+
+pub asked-from : (cs : List Command) (x : Request) → List·Memᴰ x (asked cs) → Asked cs x
+unfolding asked
+asked-from [] x m = absurd (List·Memᴰ·not-nil m)
+asked-from (Command.Leaf l ∷ cs) x m = later (asked-from cs x m)
+asked-from (Command.Join l r ∷ cs) x m = later (asked-from cs x m)
+asked-from (Command.Request n v d ∷ cs) x m =
+    ⊎-elim (λ i. (n, v, d, List·Memᴰ·head refl, requests-from n v d x i)) (λ i. later (asked-from cs x i)) (List·Memᴰ·append-cases (requests n v d) m)
+asked-from (Command.Close ∷ cs) x m = later (asked-from cs x m)
+
+asked-here : (c : Command) (cs : List Command) (n v d : ℕ) (x : Request) → Command.Request n v d ≡ c → Names n v d x → List·Memᴰ x (asked (c ∷ cs))
+unfolding asked
+asked-here c cs n v d x e k =
+    subst (λ (c : Command). List·Memᴰ x (asked (c ∷ cs))) e (Memᴰ·append-left (asked cs) (requests-has n v d x k))
+
+asked-more : (c : Command) (cs : List Command) (x : Request) → List·Memᴰ x (asked cs) → List·Memᴰ x (asked (c ∷ cs))
+unfolding asked
+asked-more (Command.Leaf l) cs x m = m
+asked-more (Command.Join l r) cs x m = m
+asked-more (Command.Request n v d) cs x m = Memᴰ·append-right (requests n v d) m
+asked-more Command.Close cs x m = m
+
+pub asked-has : (cs : List Command) (x : Request) → Asked cs x → List·Memᴰ x (asked cs)
+asked-has [] x a = absurd (List·Memᴰ·not-nil (a .3))
+asked-has (c ∷ cs) x a =
+    ⊎-elim (λ e. asked-here c cs (a .0) (a .1) (a .2) x e (a .4)) (λ m. asked-more c cs x (asked-has cs x (a .0, a .1, a .2, m, a .4)))
+    (List·Memᴰ·cases-cons (a .3))
+
 -- ---- all commands accepted
 
 pub plays-passed : {h : Head} {capacity : ℕ} {cs : List Command} {s u : State} (p : ℕ) → AllPassed h capacity cs s u
@@ -47,6 +89,11 @@ plays-passed {h} {capacity} p (all-done {s}) = plays-done h capacity 0 p s ∙ a
 plays-passed {h} {capacity} p (all-more {c} {cs} {s} {u} {w} q r) =
     plays-accepted h capacity 0 c cs p s u (play-fits h capacity capacity c s u q (passed-fits q)) ∙ plays-passed (suc p) r
     ∙ ap (λ (n : ℕ). outcome capacity 0 n w) (omega arith)
+
+pub all-last : {h : Head} {capacity : ℕ} {c : Command} {cs : List Command} {s u w : State} → AllPassed h capacity cs s u → Passed h capacity c u w
+    → AllPassed h capacity (cs ++ (c ∷ [])) s w
+all-last all-done q = all-more q all-done
+all-last (all-more p a) q = all-more p (all-last a q)
 
 -- Where nothing is refused, all commands passed.
 pub record Finished (h : Head) (capacity ending : ℕ) (cs : List Command) (s : State) : Type 0 where
@@ -95,11 +142,11 @@ unfolding view delete keys
 view-delete s = ap {B = Log Request Key (List ℕ) ℕ} (λ (l : List (List ℕ)). record { items = s .held; keys = keys s; clauses = l; summed = [] })
     (delete-clauses s)
 
-build-known : (l : ℕ) (cs : List Command) (t : List Node) (o : ℕ) → known t l ≡ true → build (Command.Leaf l ∷ cs) t o ≡ build cs t o
+pub build-known : (l : ℕ) (cs : List Command) (t : List Node) (o : ℕ) → known t l ≡ true → build (Command.Leaf l ∷ cs) t o ≡ build cs t o
 unfolding build
 build-known l cs t o e = rw (e, build)
 
-build-new : (l : ℕ) (cs : List Command) (t : List Node) (o : ℕ) → known t l ≡ false
+pub build-new : (l : ℕ) (cs : List Command) (t : List Node) (o : ℕ) → known t l ≡ false
     → build (Command.Leaf l ∷ cs) t o ≡ build cs (t ++ (leaf l ∷ [])) o
 unfolding build
 build-new l cs t o e = rw (e, build)

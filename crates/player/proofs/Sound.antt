@@ -1,39 +1,32 @@
 -- Accepted commands keep the table well made: its sides fit, and its literals are numbered apart.
 use mathlib.Core.Path.{_≡_, refl, sym, _∙_, ap, subst}
-use mathlib.Core.Bool.{Bool, true, false, _&&_, not as notb}
+use mathlib.Core.Bool.{Bool, true, false}
 use mathlib.Core.Logic.{⊎-elim, _≢_}
 use mathlib.Core.List.{List, [], _∷_, _++_, map, List·Memᴰ, List·Memᴰ·cases-cons, List·Memᴰ·not-nil, List·Memᴰ·eq-of-singleton, nodup-nil, nodup-cons}
 use Prim.Native.Nat.{ℕ, zero, suc, _+_, _-_, _*_, _≤_, _<_}
 use native.Mathlib.Omega.{arith}
-use borrow.Author.Tests.{not-true, ltb-true, leb-true, eq-eqb}
-use lib.Dec.{leb, ltb, eqb}
+use borrow.Author.Tests.{eq-eqb}
 use lib.ListN.{length, length-append, length-map}
 use Rattle.pb.specs.Sum.{variable}
 use Rattle.memo.proofs.Lists.{not-mem}
 use Rattle.totdb.specs.Nodes.{Node, any, at, range, limited, plainOr, sideLeaves, sideLen, sideOutputs, outputs, output, len, leaves, join, known, leaf, leafOf, taken, joined}
 use Rattle.totdb.specs.declared.Side.{Side}
 use Rattle.cert.specs.Definitions.{if, only-if, Direction}
-use Rattle.cert.specs.Requests.{Request, nodeOf, request}
+use Rattle.cert.specs.Requests.{Request, nodeOf, request, Right}
+use Rattle.cert.specs.Sized.{Fit}
 use Rattle.cert.specs.State.{State, start, requests, directions, serve, define, write, hold, Head}
-use Rattle.cert.proofs.Apart.{Sized, Numbered, Fit, Right, sized-ok, length-range}
+use Rattle.cert.proofs.Apart.{sized-ok, length-range}
 use Rattle.cert.proofs.Distinct.{true≢false}
 use Rattle.cert.proofs.Rules.{In, Ok}
 use Rattle.cert.proofs.Serving.{Asked, serve-in}
 use Rattle.cert.proofs.Tables.{sized-nil, numbered-nil, sized-snoc, numbered-leaf, old-or-new, numbered-join, side-some}
-use Rattle.player.specs.Player.{Question, firstNo, ask, sideFits, questions, make, act, delete}
+use Rattle.player.specs.Formed.{Sound}
+use Rattle.player.specs.Player.{firstNo, questions, make, act, delete}
+use Rattle.player.specs.Verdict.{OffNode, offset-high, limit-high}
 use Rattle.player.specs.declared.Command.{Command}
-use Rattle.player.proofs.Refusal.{and-true}
+use Rattle.player.proofs.Questions.{leaf-low, join-there, join-apart, join-free, join-sides, request-there, request-value, request-direction}
 
 -- ---- tests
-
-eqb-neq : (m n : ℕ) → notb (eqb m n) ≡ true → m ≢ n
-eqb-neq m n e p = true≢false (sym (eq-eqb m n p) ∙ not-true (eqb m n) e)
-
--- The first question is answered yes, and so are the others.
-pub yes-then : (n : ℕ) (b : Bool) (qs : List Question) → 0 < n → firstNo (ask n b ∷ qs) ≡ 0 → (b ≡ true) × (firstNo qs ≡ 0)
-unfolding firstNo
-yes-then n true qs h e = (refl, e)
-yes-then n false qs h e = absurd (omega arith)
 
 any-none : (f : Node → Bool) (t : List Node) → any f t ≡ false → (n : ℕ) → n < length t → f (at t n) ≡ false
 unfolding any at
@@ -69,24 +62,15 @@ unfolding limited
 limited-fits f zero n h g = omega arith
 limited-fits f (suc k) n h g = omega arith
 
-side-in : (t : List Node) (s : Side) → sideFits t s ≡ true → (s .offset + sideLen t s ≤ len (at t (s .node))) × (s .offset < len (at t (s .node)))
-unfolding sideFits sideLen
-side-in t s e =
+side-in : (t : List Node) (s : Side) → (OffNode t s → ⊥) → (s .offset + sideLen t s ≤ len (at t (s .node))) × (s .offset < len (at t (s .node)))
+unfolding sideLen
+side-in t s on =
     let n : ℕ = len (at t (s .node)) in
-    let p = and-true (ltb (s .offset) n && leb (s .limit) (n - s .offset)) (notb (eqb (s .offset) 0 && eqb (s .limit) n)) e in
-    let q = and-true (ltb (s .offset) n) (leb (s .limit) (n - s .offset)) (p .0) in (
-      limited-fits (s .offset) (s .limit) n (ltb-true (s .offset) n (q .0)) (leb-true (s .limit) (n - s .offset) (q .1)),
-      ltb-true (s .offset) n
-          (q .0),
-    )
+    let i : ¬ (n ≤ s .offset) = λ l. on (offset-high l) in
+    let j : ¬ (n - s .offset < s .limit) = λ l. on (limit-high l) in
+    (limited-fits (s .offset) (s .limit) n (omega (arith, i)) (omega (arith, j)), omega (arith, i))
 
 -- ---- the invariant
-
-pub record Sound (h : Head) (s : State) : Type 0 where
-  pub sized : Sized (s .nodes)
-  pub numbered : Numbered (h .variable) (s .nodes)
-  pub high : h .variable ≤ s .next-variable
-  pub after : (n : ℕ) (m : List ℕ) (o : ℕ) (l r : Side) → n < length (s .nodes) → at (s .nodes) n ≡ join m o l r → o + length m ≤ s .next-variable
 
 pub sound-start : (h : Head) → Sound h (start h)
 unfolding start
@@ -113,12 +97,11 @@ low-literal l v h = omega arith
 
 sound-leaf : (h : Head) (l : ℕ) (s : State) → firstNo (questions h (s .nodes) (Command.Leaf l)) ≡ 0 → known (s .nodes) l ≡ false → Sound h s
     → Sound h (make (leaf l) 0 s)
-unfolding make questions
+unfolding make
 sound-leaf h l s q new p =
-    let y = yes-then 6 (ltb (variable l) (h .variable)) _ (omega arith) q in
     record {
       sized = sized-snoc (s .nodes) (leaf l) (p .sized) (unfold Fit in tt);
-      numbered = numbered-leaf (h .variable) (s .nodes) (p .numbered) l (low-literal l (h .variable) (ltb-true (variable l) (h .variable) (y .0)))
+      numbered = numbered-leaf (h .variable) (s .nodes) (p .numbered) l (low-literal l (h .variable) (leaf-low h (s .nodes) l q))
           (leaf-new (s .nodes) l new);
       high = omega (arith, p .high);
       after = λ n m o a b i k. ⊎-elim (λ j. omega (arith, p .after n m o a b (j .0) (j .1)))
@@ -141,26 +124,19 @@ pub record JoinFits (t : List Node) (l r : Side) : Type 0 where
 
 pub join-fits : (h : Head) (t : List Node) (l r : Side) → firstNo (questions h t (Command.Join l r)) ≡ 0 → JoinFits t l r
 join-fits h t l r q =
-    let a = yes-then 8 (ltb (l .node) (length t) && ltb (r .node) (length t))
-    (ask 9 (notb (eqb (l .node) (r .node)) && notb (taken t (l .node)) && notb (taken t (r .node))) ∷ ask 10 (sideFits t l && sideFits t r) ∷ [])
-    (omega arith) (unfold questions in q) in
-    let b = yes-then 9 (notb (eqb (l .node) (r .node)) && notb (taken t (l .node)) && notb (taken t (r .node)))
-    (ask 10 (sideFits t l && sideFits t r) ∷ []) (omega arith) (a .1) in
-    let c = yes-then 10 (sideFits t l && sideFits t r) [] (omega arith) (b .1) in
-    let a′ = and-true (ltb (l .node) (length t)) (ltb (r .node) (length t)) (a .0) in
-    let b′ = and-true (notb (eqb (l .node) (r .node)) && notb (taken t (l .node))) (notb (taken t (r .node))) (b .0) in
-    let b″ = and-true (notb (eqb (l .node) (r .node))) (notb (taken t (l .node))) (b′ .0) in
-    let c′ = and-true (sideFits t l) (sideFits t r) (c .0) in
+    let there = join-there h t l r q in
+    let free = join-free h t l r q in
+    let fits = join-sides h t l r q in
     record {
-      left = ltb-true (l .node) (length t) (a′ .0);
-      right = ltb-true (r .node) (length t) (a′ .1);
-      apart = eqb-neq (l .node) (r .node) (b″ .0);
-      left-free = not-true (taken t (l .node)) (b″ .1);
-      right-free = not-true (taken t (r .node)) (b′ .1);
-      left-in = side-in t l (c′ .0) .0;
-      right-in = side-in t r (c′ .1) .0;
-      left-some = side-in t l (c′ .0) .1;
-      right-some = side-in t r (c′ .1) .1;
+      left = there .0;
+      right = there .1;
+      apart = join-apart h t l r q;
+      left-free = free .0;
+      right-free = free .1;
+      left-in = side-in t l (fits .0) .0;
+      right-in = side-in t r (fits .1) .0;
+      left-some = side-in t l (fits .0) .1;
+      right-some = side-in t r (fits .1) .1;
     }
 
 sound-join : (h : Head) (l r : Side) (s : State) → JoinFits (s .nodes) l r → Sound h s
@@ -202,19 +178,14 @@ pub record RequestFits (t : List Node) (n v d : ℕ) : Type 0 where
 
 pub request-fits : (h : Head) (t : List Node) (n v d : ℕ) → firstNo (questions h t (Command.Request n v d)) ≡ 0 → RequestFits t n v d
 request-fits h t n v d q =
-    let a = yes-then 8 (ltb n (length t)) (ask 11 (leb 1 v && leb v (len (at t n))) ∷ ask 12 (leb 1 d && leb d 3) ∷ []) (omega arith)
-    (unfold questions in q) in
-    let b = yes-then 11 (leb 1 v && leb v (len (at t n))) (ask 12 (leb 1 d && leb d 3) ∷ []) (omega arith) (a .1) in
-    let c = yes-then 12 (leb 1 d && leb d 3) [] (omega arith) (b .1) in
-    let b′ = and-true (leb 1 v) (leb v (len (at t n))) (b .0) in
-    let c′ = and-true (leb 1 d) (leb d 3) (c .0) in
+    let value = request-value h t n v d q in
+    let direction = request-direction h t n v d q in
     record {
-      there = ltb-true n (length t) (a .0);
-      low = leb-true 1 v (b′ .0);
-      high = leb-true v (len (at t n)) (b′ .1);
-      dir-low =
-          leb-true 1 d (c′ .0);
-      dir-high = leb-true d 3 (c′ .1);
+      there = request-there h t n v d q;
+      low = value .0;
+      high = value .1;
+      dir-low = direction .0;
+      dir-high = direction .1;
     }
 
 one-request : (t : List Node) (x : Request) → In t x → Asked t (x ∷ [])

@@ -1,32 +1,29 @@
 -- Each node stands under at most one join, so a join is as long as there are leaves at most, and there are fewer joins than leaves:
 -- nodes are few and variables stay low.
 use mathlib.Core.Path.{_≡_, refl, sym, _∙_, ap, subst}
-use mathlib.Core.Bool.{Bool, true, false, _&&_, _||_, not as notb}
+use mathlib.Core.Bool.{Bool, true, false, _||_}
 use mathlib.Core.Logic.{_≢_}
 use mathlib.Core.List.{List, [], _∷_, _++_}
-use Prim.Native.Nat.{ℕ, zero, suc, _+_, _*_, _≤_, _<_}
+use Prim.Native.Nat.{ℕ, zero, suc, _+_, _≤_, _<_}
 use native.Mathlib.Decide.{ℕ-discrete}
 use native.Mathlib.Omega.{arith}
-use borrow.Author.Tests.{ltb-true, eq-eqb, ne-eqb}
-use lib.Dec.{eqb, ltb}
+use borrow.Author.Tests.{eq-eqb, ne-eqb}
+use lib.Dec.{eqb}
 use lib.ListN.{length, length-append}
-use Rattle.pb.specs.Sum.{variable, neg}
+use Rattle.pb.specs.Sum.{variable}
 use Rattle.totdb.specs.Nodes.{Node, taken, at, any, isOver, join, leaf, leafCount, len, known, leaves, joined, sideLeaves, sideLen}
 use Rattle.totdb.specs.declared.Side.{Side}
 use Rattle.cert.specs.State.{State, start, requests, serve, Head}
 use Rattle.cert.proofs.Apart.{sized-ok}
 use Rattle.cert.proofs.Rules.{Ok, Below, at-more}
 use Rattle.cert.proofs.Tables.{at-last, length-snoc, at-snoc, taken-snoc, over-left, over-right}
-use Rattle.player.specs.Player.{firstNo, questions, ask, make, act, delete}
+use Rattle.player.specs.Formed.{Sound, sumTo, share, free, one, Treed}
+use Rattle.player.specs.Player.{firstNo, questions, make, act, delete}
 use Rattle.player.specs.declared.Command.{Command}
-use Rattle.player.proofs.Refusal.{and-true}
-use Rattle.player.proofs.Sound.{yes-then, Sound, JoinFits, sideLeaves-length, join-fits, serve-nodes, requests-asked, request-fits}
+use Rattle.player.proofs.Sound.{JoinFits, sideLeaves-length, join-fits, serve-nodes, requests-asked, request-fits}
+use Rattle.player.proofs.Questions.{leaf-few}
 
 -- ---- sums over the nodes below k
-
-sumTo : ℕ → (ℕ → ℕ) → ℕ
-sumTo zero f = 0
-sumTo (suc k) f = sumTo k f + f k
 
 sum-same : (k : ℕ) (f g : ℕ → ℕ) → ((n : ℕ) → n < k → g n ≡ f n) → sumTo k g ≡ sumTo k f
 unfolding sumTo
@@ -44,12 +41,6 @@ sum-change (suc k) p f g l h = by (ℕ-discrete k p) (λ q. sum-change k p f g q
     by (no e) ih = omega (arith, ih (omega arith), h k (omega arith) e)
 
 -- ---- what is not under a join, weighed by w
-
-share : (Node → ℕ) → List Node → ℕ → ℕ
-share w t n = elim (taken t n) [ true ↦ 0 | false ↦ w (at t n) ]
-
-pub free : (Node → ℕ) → List Node → ℕ
-free w t = sumTo (length t) (share w t)
 
 share-free : (w : Node → ℕ) (t : List Node) (n : ℕ) → taken t n ≡ false → share w t n ≡ w (at t n)
 unfolding share
@@ -161,16 +152,6 @@ module _ (w : Node → ℕ) (t : List Node) (ls : List ℕ) (o : ℕ) (l r : Sid
 
 -- ---- the invariant
 
-pub one : Node → ℕ
-one a = 1
-
-pub record Treed (h : Head) (s : State) : Type 0 where
-  pub few : leafCount (s .nodes) ≤ 64
-  pub short : free len (s .nodes) ≤ leafCount (s .nodes)
-  pub each : (n : ℕ) → n < length (s .nodes) → len (at (s .nodes) n) ≤ 64
-  pub low : s .next-variable + 64 * free one (s .nodes) ≤ h .variable + 64 * leafCount (s .nodes)
-  pub paired : length (s .nodes) + free one (s .nodes) ≡ 2 * leafCount (s .nodes)
-
 pub treed-start : (h : Head) → Treed h (start h)
 unfolding start leafCount free sumTo
 treed-start h = record { few = omega arith; short = omega arith; each = λ n h. absurd (omega arith); low = omega arith; paired = refl }
@@ -187,22 +168,13 @@ leafCount-join [] ls o l r = refl
 leafCount-join (leaf m ∷ t) ls o l r = ap suc (leafCount-join t ls o l r)
 leafCount-join (join ms p a b ∷ t) ls o l r = leafCount-join t ls o l r
 
-few-leaves : (h : Head) (t : List Node) (l : ℕ) → firstNo (questions h t (Command.Leaf l)) ≡ 0 → known t l ≡ false → leafCount t < 64
-few-leaves h t l q e =
-    let a = yes-then 6 (ltb (variable l) (h .variable)) (ask 7 (known t l || (notb (known t (neg l)) && ltb (leafCount t) 64)) ∷ []) (omega arith)
-    (unfold questions in q) in
-    let b = yes-then 7 (known t l || (notb (known t (neg l)) && ltb (leafCount t) 64)) [] (omega arith) (a .1) in
-    let c : (false || (notb (known t (neg l)) && ltb (leafCount t) 64)) ≡ true =
-    subst (λ (x : Bool). (x || (notb (known t (neg l)) && ltb (leafCount t) 64)) ≡ true) e (b .0) in
-    ltb-true (leafCount t) 64 (and-true (notb (known t (neg l))) (ltb (leafCount t) 64) c .1)
-
 treed-leaf : (h : Head) (l : ℕ) (s : State) → firstNo (questions h (s .nodes) (Command.Leaf l)) ≡ 0 → known (s .nodes) l ≡ false → Sound h s
     → Treed h s → Treed h (make (leaf l) 0 s)
 unfolding make one len leaves
 treed-leaf h l s q e p k =
     let t = s .nodes in
     let ok = sized-ok t (p .sized) in
-    let n = few-leaves h t l q e in
+    let n = leaf-few h t l q e in
     record {
       few = omega (arith, leafCount-leaf t l);
       short = omega (arith, k .short, leafCount-leaf t l, free-leaf len t l ok);

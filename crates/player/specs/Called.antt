@@ -2,11 +2,13 @@
 use mathlib.Core.Bool.{true, false}
 use mathlib.Core.List.{List, [], _∷_, _++_, List·Memᴰ}
 use Prim.Native.Nat.{ℕ, _+_}
-use Rattle.memo.specs.Closure.{From}
+use Rattle.memo.specs.Closure.{Reach}
 use Rattle.totdb.specs.Nodes.{Node, leaf, len, joined, known}
-use Rattle.cert.specs.Definitions.{Key, pulls}
-use Rattle.cert.specs.Requests.{Request, needs, literalsOf, lookups}
-use Rattle.cert.specs.State.{requests, Head}
+use Rattle.cert.specs.Definitions.{Key}
+use Rattle.cert.specs.Lookups.{keysOf}
+use Rattle.cert.specs.Requests.{Request, Names}
+use Rattle.cert.specs.State.{Head}
+use Rattle.cert.specs.Totalizer.{totalizer, dependencies}
 use Rattle.player.specs.declared.Command.{Command}
 
 -- The leaf and join commands, in order.
@@ -17,14 +19,9 @@ makes (Command.Join l r ∷ cs) = Command.Join l r ∷ makes cs
 makes (Command.Request n v d ∷ cs) = makes cs
 makes (Command.Close ∷ cs) = makes cs
 
--- The node, value and direction of each request, both as the two.
-unfoldable pub asked : List Command → List Request
-unfolding requests
-asked [] = []
-asked (Command.Leaf l ∷ cs) = asked cs
-asked (Command.Join l r ∷ cs) = asked cs
-asked (Command.Request n v d ∷ cs) = requests n v d ++ asked cs
-asked (Command.Close ∷ cs) = asked cs
+-- A request that one of the commands names.
+abbrev pub Asked : List Command → Request → Type 0
+Asked cs x = (n : ℕ) × (v : ℕ) × (d : ℕ) × List·Memᴰ (Command.Request n v d) cs × Names n v d x
 
 -- The table that the commands make after t, their outputs on the variables from o up.
 unfoldable pub build : List Command → List Node → ℕ → List Node
@@ -39,14 +36,14 @@ unfoldable pub table : Head → List Command → List Node
 unfolding build
 table h cs = build cs [] (h .variable)
 
--- The requests and all they need below.
+-- The requests that the commands name, and on down to the leaves all that these depend on.
 abbrev pub Closure : Head → List Command → Request → Type 0
-Closure h cs x = From (needs (table h cs)) (asked cs) x
+Closure h cs x = (a : Request) × Asked cs a × Reach (dependencies (table h cs)) a x
 
 -- A clause of the closure.
 abbrev pub Called : Head → List Command → List ℕ → Type 0
-Called h cs c = (x : Request) × Closure h cs x × List·Memᴰ c (literalsOf (table h cs) x)
+Called h cs c = (x : Request) × Closure h cs x × List·Memᴰ c (totalizer (table h cs) x)
 
--- A key that the lookups of the closure's clauses store.
+-- A key of the definitions that the closure's clauses are derived from.
 abbrev pub KeyCalled : Head → List Command → Key → Type 0
-KeyCalled h cs k = (x : Request) × Closure h cs x × From pulls (lookups (table h cs) x) k
+KeyCalled h cs k = (x : Request) × Closure h cs x × List·Memᴰ k (keysOf (table h cs) x)

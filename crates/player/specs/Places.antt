@@ -3,7 +3,7 @@ use mathlib.Core.Bool.{Bool}
 use mathlib.Core.List.{List}
 use Prim.Native.Nat.{ℕ, _-_}
 use lib.ListN.{length, drop}
-use Rattle.number.specs.Number.{readAt, readRefusal}
+use Rattle.number.specs.Number.{readAt}
 use Rattle.number.specs.declared.Reading.{Reading}
 use Rattle.number.specs.declared.Reading.the-variants.{Number, Bad}
 use Rattle.player.specs.Script.{Next, command, refuse, end, arguments, readCommand}
@@ -42,8 +42,3 @@ sideAt s at =
 
 abbrev pub headAt : List ℕ → HeadReading
 headAt s = withNumber HeadReading.Bad (readAt s 0) (λ v a. withNumber HeadReading.Bad (readAt s a) (λ n e. HeadReading.Head v n e))
-
--- The refusal of document 01 that it stands for; 0 is none.
-abbrev pub headRefusal : HeadReading → ℕ
-headRefusal (HeadReading.Head v n e) = 0
-headRefusal HeadReading.Bad = readRefusal Bad

@@ -5,7 +5,8 @@ use mathlib.Core.List.{List, [], _∷_, _++_}
 use Prim.Native.Nat.{ℕ, zero, suc, _+_, _-_, _≤_}
 use lib.Dec.{leb, ltb, eqb}
 use lib.ListN.{length, drop, replicate}
-use Rattle.number.specs.Number.{writtenRefusal}
+use Rattle.number.specs.Number.{readRefusal, writtenRefusal}
+use Rattle.number.specs.declared.Reading.the-variants.{Bad}
 use Rattle.number.specs.declared.Written.the-variants.{Full}
 use Rattle.pb.specs.Sum.{variable, neg}
 use Rattle.record.specs.Record.{deletion, bytes, steps, clauses}
@@ -14,9 +15,7 @@ use Rattle.totdb.specs.declared.Side.{Side}
 use Rattle.cert.specs.Requests.{Request, clausesOf, lacksOne}
 use Rattle.cert.specs.State.{State, start, storedSteps, serve, requests, Head}
 use Rattle.player.specs.Script.{Script, script, headless, readScript}
-use Rattle.player.specs.Places.{headRefusal}
 use Rattle.player.specs.declared.Command.{Command}
-use Rattle.player.specs.declared.HeadReading.{HeadReading}
 
 -- ---- questions
 
@@ -145,10 +144,6 @@ pub record Padded (capacity : ℕ) (o : Outcome) : Type 0 where
   pub whole : length (o .log) ≡ capacity
   pub zeros : drop (o .used) (o .log) ≡ replicate (capacity - o .used) 0
 
--- The outcome without its refusal: q commands played.
-unfoldable pub unrefused : ℕ → Outcome → Outcome
-unrefused q o = record { number = 0; place = q; used = o .used; steps = o .steps; clauses = o .clauses; nodes = o .nodes; log = o .log }
-
 -- The question that stopped the reading is put to the command after the last one read.
 unfoldable pub ended : ℕ → ℕ → ℕ → State → Outcome
 unfolding outcome
@@ -179,7 +174,7 @@ headFits h = leb (h .variable) mostHead && leb 1 (h .step) && leb (h .step) most
 
 unfoldable pub playScript : ℕ → Script → Outcome
 unfolding plays start refusedAtHead headFits
-playScript capacity headless = refusedAtHead capacity (headRefusal HeadReading.Bad)
+playScript capacity headless = refusedAtHead capacity (readRefusal Bad)
 playScript capacity (script h cs) =
     elim (headFits h) [ true ↦ plays h capacity (cs .ending) (cs .list) 0 (start h) | false ↦ refusedAtHead capacity 3 ]
 

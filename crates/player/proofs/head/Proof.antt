@@ -1,8 +1,19 @@
 -- `player::head` meets its contract: each number in its turn.
-use mathlib.Core.Path.{sym, _∙_}
+use mathlib.Core.Path.{_≡_, sym, _∙_}
+use mathlib.Core.List.{List}
+use Prim.Native.Nat.{ℕ}
+use native.Mathlib.Omega.{arith}
 use borrow.Author.Needs.{needs}
+use Rattle.number.specs.Number.{readAt}
+use Rattle.number.specs.declared.Reading.the-variants.{Number}
+use Rattle.player.specs.Places.{headAt}
+use Rattle.player.specs.declared.HeadReading.{HeadReading}
 use Rattle.player.proofs.head.Statement.{statement}
 use Rattle.player.proofs.head.Tie as tie
+
+module _ (s : List ℕ) {v a n b : ℕ} (first : readAt s 0 ≡ Number v a) (second : readAt s a ≡ Number n b) where
+  both : {x y z : ℕ} → x ≡ v → y ≡ n → z ≡ b → HeadReading.Head x y z ≡ headAt s
+  both i j k = rw (first, second, i, j, k)
 
 read-requires : tie.Need-read-requires
 read-requires c κs = search needs
@@ -40,10 +51,8 @@ returns-3 : tie.Need-returns-3
 returns-3 c =
     let second = c .before in
     let first = second .before .before .before .before in
-    rw (
-      sym (first .before .before .read .ensures) ∙ first .variable .given .1,
-      sym (second .before .before .read2 .ensures) ∙ second .step .given .1,
-    )
+    both _ (sym (first .before .before .read .ensures) ∙ first .variable .given .1)
+    (sym (second .before .before .read2 .ensures) ∙ second .step .given .1) (omega arith) (omega arith) (omega arith)
 
 pub head-spec : {M : Type 1} → statement M
 head-spec =

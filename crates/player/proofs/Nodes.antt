@@ -1,0 +1,258 @@
+-- The nodes of an accepted script: which commands make them, and on which variables their outputs stand.
+use mathlib.Core.Path.{_≡_, refl, sym, _∙_, ap, subst}
+use mathlib.Core.Bool.{Bool, true, false, _||_}
+use mathlib.Core.List.{List, [], _∷_, _++_, map, map-append, append-nil, append-assoc}
+use Prim.Native.Nat.{ℕ, zero, suc, _+_, _-_, _*_, _<_}
+use native.Mathlib.Omega.{arith}
+use borrow.Author.Tests.{eqb-true}
+use lib.Dec.{eqb}
+use lib.ListN.{length}
+use lib.Seq.{append-snoc}
+use Rattle.pb.specs.Sum.{variable}
+use Rattle.totdb.specs.Nodes.{Node, leaf, join, at, leaves, len, output, outputs, range, limited, plainOr, known, leafOf, joined, sideLen, sideOutputs, sideLeaves}
+use Rattle.totdb.specs.declared.Side.{Side}
+use Rattle.cert.specs.State.{State, start, Head}
+use Rattle.cert.specs.Sized.{Fit, Sized, Numbered}
+use Rattle.player.specs.Formed.{Sound}
+use Rattle.cert.proofs.Lookups.{window-or}
+use Rattle.cert.proofs.Tables.{any-snoc}
+use Rattle.cert.proofs.WindowDerivations.{range-append}
+use Rattle.player.specs.Accepted.{without, makers, makerOf, joinOutputs, joinLengths, SideIs, plain-side, to-the-end, to-the-limit, NodesOf}
+use Rattle.player.specs.Called.{build, table}
+use Rattle.player.specs.Passes.{AllPassed}
+use Rattle.player.specs.declared.Command.{Command}
+use Rattle.player.proofs.Matching.{nodes-table}
+use Rattle.player.proofs.Runs.{build-known, build-new, all-ran}
+use Rattle.player.proofs.Sound.{sound-start}
+
+-- ---- the commands that make nodes
+
+-- Of these commands, those that make a node after the table t.
+unseen : List Node → List Command → List Command
+unseen t [] = []
+unseen t (Command.Leaf m ∷ cs) = elim (known t m) [ true ↦ unseen t cs | false ↦ Command.Leaf m ∷ unseen t cs ]
+unseen t (Command.Join a b ∷ cs) = Command.Join a b ∷ unseen t cs
+unseen t (Command.Request n v d ∷ cs) = Command.Request n v d ∷ unseen t cs
+unseen t (Command.Close ∷ cs) = Command.Close ∷ unseen t cs
+
+-- One command before two lists alike.
+cons-same : (c : Command) {xs ys : List Command} → xs ≡ ys → c ∷ xs ≡ c ∷ ys
+cons-same c e = ap {B = List Command} (λ (l : List Command). c ∷ l) e
+
+abbrev pickOne : Bool → ℕ → List Command → List Command
+pickOne b m cs = elim b as (λ _. List Command) [ true ↦ cs | false ↦ Command.Leaf m ∷ cs ]
+
+unseen-pick : (t : List Node) (b : Bool) (m : ℕ) (cs : List Command) → unseen t (pickOne b m cs) ≡ pickOne (b || known t m) m (unseen t cs)
+unfolding unseen
+unseen-pick t true m cs = refl
+unseen-pick t false m cs = refl
+
+-- A literal is left out of the commands, and those known to t are left out then: all that u knows are.
+unseen-without : (l : ℕ) (t u : List Node) → ((m : ℕ) → (eqb m l || known t m) ≡ known u m) → (cs : List Command)
+    → unseen t (without l cs) ≡ unseen u cs
+unfolding unseen without
+unseen-without l t u h [] = refl
+unseen-without l t u h (Command.Leaf m ∷ cs) =
+    unseen-pick t (eqb m l) m (without l cs) ∙ ap (λ (b : Bool). pickOne b m (unseen t (without l cs))) (h m)
+    ∙ ap (pickOne (known u m) m) (unseen-without l t u h cs)
+unseen-without l t u h (Command.Join a b ∷ cs) = cons-same (Command.Join a b) (unseen-without l t u h cs)
+unseen-without l t u h (Command.Request n v d ∷ cs) = cons-same (Command.Request n v d) (unseen-without l t u h cs)
+unseen-without l t u h (Command.Close ∷ cs) = cons-same Command.Close (unseen-without l t u h cs)
+
+unseen-same : (t u : List Node) → ((m : ℕ) → known t m ≡ known u m) → (cs : List Command) → unseen t cs ≡ unseen u cs
+unfolding unseen
+unseen-same t u h [] = refl
+unseen-same t u h (Command.Leaf m ∷ cs) =
+    ap (λ (b : Bool). pickOne b m (unseen t cs)) (h m) ∙ ap (pickOne (known u m) m) (unseen-same t u h cs)
+unseen-same t u h (Command.Join a b ∷ cs) = cons-same (Command.Join a b) (unseen-same t u h cs)
+unseen-same t u h (Command.Request n v d ∷ cs) = cons-same (Command.Request n v d) (unseen-same t u h cs)
+unseen-same t u h (Command.Close ∷ cs) = cons-same Command.Close (unseen-same t u h cs)
+
+unseen-nil : (cs : List Command) → unseen [] cs ≡ cs
+unfolding unseen known
+unseen-nil [] = refl
+unseen-nil (Command.Leaf m ∷ cs) = cons-same (Command.Leaf m) (unseen-nil cs)
+unseen-nil (Command.Join a b ∷ cs) = cons-same (Command.Join a b) (unseen-nil cs)
+unseen-nil (Command.Request n v d ∷ cs) = cons-same (Command.Request n v d) (unseen-nil cs)
+unseen-nil (Command.Close ∷ cs) = cons-same Command.Close (unseen-nil cs)
+
+-- What a table knows with a literal that it knows, with a new leaf, with a join.
+known-again : (t : List Node) (l : ℕ) → known t l ≡ true → (m : ℕ) → (eqb m l || known t m) ≡ known t m
+known-again t l e m = by (eqb m l) refl
+  where
+    by : (b : Bool) → eqb m l ≡ b → (b || known t m) ≡ known t m
+    by false f = refl
+    by true f = let z : m ≡ l = eqb-true m l f in rw z (sym e)
+
+or-swap : (a b : Bool) → (a || b) ≡ (b || a)
+or-swap true true = refl
+or-swap true false = refl
+or-swap false true = refl
+or-swap false false = refl
+
+known-leaf : (t : List Node) (l m : ℕ) → (eqb m l || known t m) ≡ known (t ++ (leaf l ∷ [])) m
+unfolding known leafOf
+known-leaf t l m = or-swap (eqb m l) (known t m) ∙ sym (any-snoc (leafOf m) t (leaf l))
+
+known-join : (t : List Node) (ls : List ℕ) (o : ℕ) (l r : Side) (m : ℕ) → known (t ++ (join ls o l r ∷ [])) m ≡ known t m
+unfolding known leafOf
+known-join t ls o l r m = any-snoc (leafOf m) t (join ls o l r) ∙ or-swap (known t m) false
+
+-- Each command of a list makes its node, or none.
+build-makers : (cs : List Command) (t : List Node) (o : ℕ)
+    → map {B = Command} makerOf (build cs t o) ≡ map {B = Command} makerOf t ++ unseen t (makers cs)
+unfolding makers unseen build makerOf joined
+build-makers [] t o = sym (append-nil (map {B = Command} makerOf t))
+build-makers (Command.Leaf l ∷ cs) t o = by (known t l) refl (build-makers cs t o) (build-makers cs (t ++ (leaf l ∷ [])) o)
+  where
+    by : (b : Bool) → known t l ≡ b → map {B = Command} makerOf (build cs t o) ≡ map {B = Command} makerOf t ++ unseen t (makers cs)
+        → map {B = Command} makerOf (build cs (t ++ (leaf l ∷ [])) o)
+        ≡ map {B = Command} makerOf (t ++ (leaf l ∷ [])) ++ unseen (t ++ (leaf l ∷ [])) (makers cs)
+        → map {B = Command} makerOf (build (Command.Leaf l ∷ cs) t o)
+        ≡ map {B = Command} makerOf t ++ pickOne (known t l) l (unseen t (without l (makers cs)))
+    by true e f g =
+        ap (map {B = Command} makerOf) (build-known l cs t o e) ∙ f
+        ∙ rw e (ap (λ (l : List Command). map {B = Command} makerOf t ++ l) (sym (unseen-without l t t (known-again t l e) (makers cs))))
+    by false e f g =
+        ap (map {B = Command} makerOf) (build-new l cs t o e) ∙ g
+        ∙ ap (λ (x : List Command). x ++ unseen (t ++ (leaf l ∷ [])) (makers cs)) (map-append makerOf t (leaf l ∷ []))
+        ∙ append-snoc (map {B = Command} makerOf t) (makerOf (leaf l)) (unseen (t ++ (leaf l ∷ [])) (makers cs))
+        ∙ rw e (ap (λ (x : List Command). map {B = Command} makerOf t ++ (Command.Leaf l ∷ x))
+        (sym (unseen-without l t (t ++ (leaf l ∷ [])) (known-leaf t l) (makers cs))))
+build-makers (Command.Join l r ∷ cs) t o =
+    let j = joined t o l r in
+    let u : List Node = t ++ (j ∷ []) in
+    build-makers cs u (o + len j)
+    ∙ ap (λ (x : List Command). x ++ unseen u (makers cs)) (map-append makerOf t (j ∷ []))
+    ∙ append-snoc (map {B = Command} makerOf t) (makerOf j) (unseen u (makers cs))
+    ∙ (ap (λ (x : List Command). map {B = Command} makerOf t ++ (Command.Join l r ∷ x))
+    (unseen-same u t (known-join t (sideLeaves t l ++ sideLeaves t r) o l r) (makers cs)))
+build-makers (Command.Request n v d ∷ cs) t o = build-makers cs t o
+build-makers (Command.Close ∷ cs) t o = build-makers cs t o
+
+-- ---- outputs
+
+-- The joins of t stand on the variables from v up, one after the other.
+abbrev Stands : ℕ → List Node → Type 0
+Stands v t = joinOutputs t ≡ map (λ (v : ℕ). 2 * v) (range v (joinLengths t))
+
+outputs-leaf : (t : List Node) (l : ℕ) → joinOutputs (t ++ (leaf l ∷ [])) ≡ joinOutputs t
+unfolding joinOutputs
+outputs-leaf [] l = refl
+outputs-leaf (leaf m ∷ t) l = outputs-leaf t l
+outputs-leaf (join ls o a b ∷ t) l = ap (λ (x : List ℕ). map (output (join ls o a b)) (range 1 (length ls)) ++ x) (outputs-leaf t l)
+
+outputs-join : (t : List Node) (ls : List ℕ) (o : ℕ) (l r : Side)
+    → joinOutputs (t ++ (join ls o l r ∷ [])) ≡ joinOutputs t ++ map (output (join ls o l r)) (range 1 (length ls))
+unfolding joinOutputs
+outputs-join [] ls o l r = append-nil (map (output (join ls o l r)) (range 1 (length ls)))
+outputs-join (leaf m ∷ t) ls o l r = outputs-join t ls o l r
+outputs-join (join ms p a b ∷ t) ls o l r =
+    ap (λ (x : List ℕ). map (output (join ms p a b)) (range 1 (length ms)) ++ x) (outputs-join t ls o l r)
+    ∙ sym (append-assoc (map (output (join ms p a b)) (range 1 (length ms))) (joinOutputs t) (map (output (join ls o l r)) (range 1 (length ls))))
+
+lengths-leaf : (t : List Node) (l : ℕ) → joinLengths (t ++ (leaf l ∷ [])) ≡ joinLengths t
+unfolding joinLengths
+lengths-leaf [] l = refl
+lengths-leaf (leaf m ∷ t) l = lengths-leaf t l
+lengths-leaf (join ls o a b ∷ t) l = ap (λ (n : ℕ). length ls + n) (lengths-leaf t l)
+
+lengths-join : (t : List Node) (ls : List ℕ) (o : ℕ) (l r : Side) → joinLengths (t ++ (join ls o l r ∷ [])) ≡ joinLengths t + length ls
+unfolding joinLengths
+lengths-join [] ls o l r = omega arith
+lengths-join (leaf m ∷ t) ls o l r = lengths-join t ls o l r
+lengths-join (join ms p a b ∷ t) ls o l r = omega (arith, lengths-join t ls o l r)
+
+outputs-from : (ls : List ℕ) (o : ℕ) (l r : Side) (i n : ℕ)
+    → map (output (join ls o l r)) (range (i + 1) n) ≡ map (λ (v : ℕ). 2 * v) (range (o + i) n)
+unfolding range output
+outputs-from ls o l r i zero = refl
+outputs-from ls o l r i (suc n) =
+    let e : o + (i + 1) - 1 ≡ o + i = omega arith in
+    let f : suc (i + 1) ≡ suc i + 1 = omega arith in
+    let g : o + suc i ≡ suc (o + i) = omega arith in
+    rw (e, f) (ap {B = List ℕ} (λ (x : List ℕ). 2 * (o + i) ∷ x) (outputs-from ls o l r (suc i) n ∙ rw g))
+
+-- They do, and o is the next.
+record Stand (v : ℕ) (t : List Node) (o : ℕ) : Type 0 where
+  on : Stands v t
+  next : o ≡ v + joinLengths t
+
+stand-leaf : (v : ℕ) (t : List Node) (o l : ℕ) → Stand v t o → Stand v (t ++ (leaf l ∷ [])) o
+stand-leaf v t o l k = record { on = outputs-leaf t l ∙ k .on ∙ rw (lengths-leaf t l); next = rw (lengths-leaf t l) (k .next) }
+
+stand-join : (v : ℕ) (t : List Node) (o : ℕ) (ls : List ℕ) (l r : Side) → Stand v t o → Stand v (t ++ (join ls o l r ∷ [])) (o + length ls)
+stand-join v t o ls l r k = record {
+  on = outputs-join t ls o l r ∙ rw (k .on, lengths-join t ls o l r, range-append v (joinLengths t) (length ls))
+      (rw (map-append (λ (v : ℕ). 2 * v) (range v (joinLengths t)) (range (v + joinLengths t) (length ls)))
+      (ap (λ (x : List ℕ). map (λ (v : ℕ). 2 * v) (range v (joinLengths t)) ++ x) here));
+  next = omega (arith, k .next, lengths-join t ls o l r);
+}
+  where
+    here : map (output (join ls o l r)) (range 1 (length ls)) ≡ map (λ (v : ℕ). 2 * v) (range (v + joinLengths t) (length ls))
+    here = outputs-from ls o l r 0 (length ls) ∙ ap (λ (n : ℕ). map (λ (v : ℕ). 2 * v) (range n (length ls))) (omega (arith, k .next))
+
+build-stand : (v : ℕ) (cs : List Command) (t : List Node) (o : ℕ) → Stand v t o → Stands v (build cs t o)
+unfolding build
+build-stand v [] t o k = k .on
+build-stand v (Command.Leaf l ∷ cs) t o k = by (known t l) refl (build-stand v cs t o k) (build-stand v cs (t ++ (leaf l ∷ [])) o (stand-leaf v t o l k))
+  where
+    by : (b : Bool) → known t l ≡ b → Stands v (build cs t o) → Stands v (build cs (t ++ (leaf l ∷ [])) o) → Stands v (build (Command.Leaf l ∷ cs) t o)
+    by true e f g = subst (Stands v) (sym (build-known l cs t o e)) f
+    by false e f g = subst (Stands v) (sym (build-new l cs t o e)) g
+build-stand v (Command.Join l r ∷ cs) t o k =
+    build-stand v cs (t ++ (joined t o l r ∷ [])) (o + len (joined t o l r))
+    (unfold joined len leaves in stand-join v t o (sideLeaves t l ++ sideLeaves t r) l r k)
+build-stand v (Command.Request n w d ∷ cs) t o k = build-stand v cs t o k
+build-stand v (Command.Close ∷ cs) t o k = build-stand v cs t o k
+
+-- ---- sides
+
+side-outputs : (t : List Node) (s : Side) (n : ℕ) → sideLen t s ≡ n → sideOutputs t s ≡ map (output (at t (s .node))) (range (s .offset + 1) n)
+unfolding sideOutputs outputs
+side-outputs t s n a = ap {B = List ℕ} (λ (m : ℕ). map {B = ℕ} (output (at t (s .node))) (range (s .offset + 1) m)) a
+
+side-of : (t : List Node) (s : Side) → SideIs t s (sideLen t s) (sideLeaves t s)
+side-of t s = by (s .offset) (s .limit) refl refl
+  where
+    by : (f k : ℕ) → s .offset ≡ f → s .limit ≡ k → SideIs t s (sideLen t s) (sideLeaves t s)
+    by zero zero e g =
+        let a : sideLen t s ≡ len (at t (s .node)) = unfold sideLen in rw (e, g) (unfold limited in omega arith) in
+        let b : sideLeaves t s ≡ leaves (at t (s .node)) = unfold sideLeaves in rw (e, g) (unfold plainOr in refl) in
+        rw (a, b) (plain-side e g)
+    by (suc f) zero e g =
+        let a : sideLen t s ≡ len (at t (s .node)) - s .offset = unfold sideLen in rw g (unfold limited in refl) in
+        let b : sideLeaves t s ≡ sideOutputs t s = unfold sideLeaves in rw (e, g) (unfold plainOr in refl) in
+        let c = side-outputs t s (len (at t (s .node)) - s .offset) a in
+        rw (a, b, c) (to-the-end (omega arith) g)
+    by f (suc k) e g =
+        let a : sideLen t s ≡ s .limit = unfold sideLen in rw g (unfold limited in refl) in
+        let b : sideLeaves t s ≡ sideOutputs t s = unfold sideLeaves in window-or (s .offset) (s .limit) (leaves (at t (s .node))) (sideOutputs t s) (omega arith) in
+        let c = side-outputs t s (s .limit) a in
+        rw (a, b, c) (to-the-limit (omega arith))
+
+-- ---- all of it
+
+pub nodes-of : (h : Head) (capacity : ℕ) (cs : List Command) (u : State) → AllPassed h capacity cs (start h) u → NodesOf h cs (table h cs)
+nodes-of h capacity cs u a = record {
+  made-by = unfold table in build-makers cs [] (h .variable) ∙ unseen-nil (makers cs);
+  leaves-low = λ n l i e. low l (numbered .leaf-low n l i e);
+  leaves-own = λ l. unfold leaves output in (refl, refl);
+  sides = side-of (table h cs);
+  lengths = λ n ls o l r i e. unfold Fit in subst (Fit (table h cs) n) e (sized n i) .5;
+  leaf-lists = λ n ls o l r i e. unfold Fit in subst (Fit (table h cs) n) e (sized n i) .6;
+  outputs-next = unfold table in build-stand (h .variable) cs [] (h .variable)
+      (unfold joinOutputs joinLengths range in record { on = refl; next = omega arith });
+}
+  where
+    sound : Sound h u
+    sound = all-ran a (sound-start h) .1
+
+    numbered : Numbered (h .variable) (table h cs)
+    numbered = rw (nodes-table h capacity cs u a) at (sound .numbered)
+
+    sized : (n : ℕ) → n < length (table h cs) → Fit (table h cs) n (at (table h cs) n)
+    sized = unfold Sized in rw (nodes-table h capacity cs u a) at (sound .sized)
+
+    low : (l : ℕ) → l < 2 * h .variable → variable l < h .variable
+    low l k = unfold variable in omega arith
