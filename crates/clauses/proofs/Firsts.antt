@@ -52,15 +52,15 @@ module _ {t : List Node} {firsts : List ℕ} {es : List Stored} (f : FirstsOf t 
   after-first {n} {o} {m} w k =
       ap (λ (first : ℕ). stepAt first k) (f .is (window n o m) w) ∙ at-low (fromIn es (window n o m)) k (f .few (window n o m))
 
-  pub window-read : (n o m a : ℕ) (b : Bool) → WindowOf t n o m → lacks (windowDef n o m a (direction b)) ≡ false
-      → Step (windowStep (getD firsts (68 * n + 66) 0) (getD firsts (68 * n + 67) 0) a b) ≡ operand (stepIn es) (windowDef n o m a (direction b))
+  pub window-read : (n o m v : ℕ) (b : Bool) → WindowOf t n o m → lacks (windowDef n o m v (direction b)) ≡ false
+      → Step (windowStep (getD firsts (68 * n + 66) 0) (getD firsts (68 * n + 67) 0) o v b) ≡ operand (stepIn es) (windowDef n o m v (direction b))
   unfolding windowStep windowDef direction lacks operand stepIn slot Used
   window-read n o m zero true w l = ap Step (f .is (window-zero n o m) w)
   window-read n o m zero false w l = absurd (true≢false l)
-  window-read n o m (suc i) true w l =
-      there-or (stepIn es) (decLe (suc i) m) (window n o m) (2 * i + 2) (stepAt (getD firsts (68 * n + 67) 0) (2 * i + 1))
-      (after-first w (2 * i + 1) ∙ rw (two i)) l
-  window-read n o m (suc i) false w l = ap Step (after-first w (2 * i) ∙ rw (one i))
+  window-read n o m (suc v) true w l =
+      there-or (stepIn es) (decLe (suc v) (o + m)) (window n o m) (2 * (v - o) + 2) (stepAt (getD firsts (68 * n + 67) 0) (2 * (v - o) + 1))
+      (after-first w (2 * (v - o) + 1) ∙ rw (two (v - o))) l
+  window-read n o m (suc v) false w l = ap Step (after-first w (2 * (v - o)) ∙ rw (one (v - o)))
 
 -- ---- the cases of the code
 
@@ -117,23 +117,23 @@ module _ (first : ℕ) (v : ℕ) (b : Bool) where
       by zero h = absurd (omega arith)
       by (suc v) h = refl
 
-module _ (origin first : ℕ) (a : ℕ) (b : Bool) where
-  pub window-origin : a ≡ 0 → origin ≡ windowStep origin first a b
+module _ (origin first f : ℕ) (v : ℕ) (b : Bool) where
+  pub window-origin : v ≡ 0 → origin ≡ windowStep origin first f v b
   unfolding windowStep
   window-origin e = rw e
 
-  pub window-only : (k : ℕ) → 0 < a → k ≡ 2 * (a - 1) → b ≡ true → stepAt first (k + 1) ≡ windowStep origin first a b
+  pub window-only : (k : ℕ) → 0 < v → k ≡ 2 * (v - f - 1) → b ≡ true → stepAt first (k + 1) ≡ windowStep origin first f v b
   unfolding windowStep
-  window-only k h f e = rw e (by a h f)
+  window-only k h g e = rw e (by v h g)
     where
-      by : (a : ℕ) → 0 < a → k ≡ 2 * (a - 1) → stepAt first (k + 1) ≡ windowStep origin first a true
-      by zero h f = absurd (omega arith)
-      by (suc i) h f = ap (λ (j : ℕ). stepAt first j) (omega arith)
+      by : (v : ℕ) → 0 < v → k ≡ 2 * (v - f - 1) → stepAt first (k + 1) ≡ windowStep origin first f v true
+      by zero h g = absurd (omega arith)
+      by (suc v) h g = ap (λ (j : ℕ). stepAt first j) (omega arith)
 
-  pub window-if : (k : ℕ) → 0 < a → k ≡ 2 * (a - 1) → b ≡ false → stepAt first k ≡ windowStep origin first a b
+  pub window-if : (k : ℕ) → 0 < v → k ≡ 2 * (v - f - 1) → b ≡ false → stepAt first k ≡ windowStep origin first f v b
   unfolding windowStep
-  window-if k h f e = rw e (by a h f)
+  window-if k h g e = rw e (by v h g)
     where
-      by : (a : ℕ) → 0 < a → k ≡ 2 * (a - 1) → stepAt first k ≡ windowStep origin first a false
-      by zero h f = absurd (omega arith)
-      by (suc i) h f = ap (λ (j : ℕ). stepAt first j) (omega arith)
+      by : (v : ℕ) → 0 < v → k ≡ 2 * (v - f - 1) → stepAt first k ≡ windowStep origin first f v false
+      by zero h g = absurd (omega arith)
+      by (suc v) h g = ap (λ (j : ℕ). stepAt first j) (omega arith)

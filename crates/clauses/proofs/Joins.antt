@@ -10,14 +10,16 @@ use lib.ListN.{length, getD}
 use Rattle.pb.specs.Sum.{neg}
 use Rattle.totdb.specs.Nodes.{Node, leaf, join, at, len, output, fromFirst, sideLen, sideLit, lengthOver, plainOr, keyed}
 use Rattle.totdb.specs.declared.Side.{Side}
+use Rattle.totdb.proofs.Sides.{plain-keyed, keyed-zero, keyed-above}
 use Rattle.cert.specs.Definitions.{Direction, oneDef, realDef, sideDef}
 use Rattle.cert.specs.Requests.{negPart, posPart, lacks}
 use Rattle.cert.specs.State.{Stored, stepIn}
+use Rattle.cert.proofs.Keyed.{short-side, plain-side, window-side}
 use Rattle.derivation.specs.Operands.{operand}
 use Rattle.derivation.specs.declared.SemDefinition.the-variants.{Step}
 use Rattle.define.specs.Tables.{Lists, SideOf, left-of, right-of, SideIn, RealOf, WindowOf, direction}
 use Rattle.define.proofs.Rows.{output-at}
-use Rattle.define.proofs.Sides.{long-plain, long-window, plain-keyed, short-side, long-side, side-length}
+use Rattle.define.proofs.Sides.{side-length}
 use Rattle.define.proofs.Slots.{side-inside}
 use Rattle.clauses.specs.declared.Join.{Join}
 use Rattle.clauses.specs.Firsts.{realStep, windowStep, FirstsOf}
@@ -123,6 +125,14 @@ neg-one t s (suc a) h = refl
 pub keyed-low : {os : List ℕ} {s : Side} {k a : ℕ} → SideReach os s k a → plainOr (s .offset) (s .limit) true false ≡ true → keyed s a ≤ 65
 keyed-low {s = s} {a = a} r p = omega (arith, plain-keyed s p a, r .short, r .value)
 
+-- 0, or above the offset.
+pub keyed-in : {os : List ℕ} {s : Side} {k a : ℕ} → SideReach os s k a → (0 < keyed s a → s .offset < keyed s a) × (keyed s a ≤ s .offset + 65)
+keyed-in {s = s} {a = a} r = by (decLe a 0)
+  where
+    by : Dec (a ≤ 0) → (0 < keyed s a → s .offset < keyed s a) × (keyed s a ≤ s .offset + 65)
+    by (yes p) = let e = keyed-zero s a (omega arith) in (λ h. omega arith, omega arith)
+    by (no p) = let e = keyed-above s a (omega arith) in (λ h. omega arith, omega (arith, r .short, r .value))
+
 module _ {ls os : List ℕ} {t : List Node} (l : Lists ls os t) {s : Side} {k a : ℕ} (i : SideIn t s k a) where
   pub only-absent : lengthOver s k < a → [] ≡ clausePart true t s a
   unfolding clausePart
@@ -140,32 +150,28 @@ module _ {ls os : List ℕ} {t : List Node} (l : Lists ls os t) {s : Side} {k a 
   unfolding clausePart
   if-literal h g = rw (side-literal l a (i .of) h (omega (arith, side-length t s (i .node-len)))) (neg-one t s a h)
 
-  pub one-side : (d : Direction) → lengthOver s k ≤ 1 → oneDef (fromFirst (getD os (64 * s .node) 0) (s .offset + 1)) a d ≡ sideDef t s a d
-  one-side d h =
+  pub one-operand : (d : Direction) → lengthOver s k ≤ 1 → oneDef (fromFirst (getD os (64 * s .node) 0) (s .offset + 1)) a d ≡ sideDef t s a d
+  one-operand d h =
       ap (λ (o : ℕ). oneDef o a d) (side-literal l 1 (i .of) (omega arith) (side-inside l s (i .of) .2))
       ∙ sym (short-side t s a d (omega (arith, side-length t s (i .node-len))))
 
   module _ {firsts : List ℕ} {es : List Stored} (f : FirstsOf t firsts es) (b : Bool) (h : 1 < lengthOver s k)
       (there : lacks (sideDef t s a (direction b)) ≡ false) where
-    pub plain-side : plainOr (s .offset) (s .limit) true false ≡ true
+    pub plain-operand : plainOr (s .offset) (s .limit) true false ≡ true
         → Step (realStep (getD firsts (68 * s .node + keyed s a) 0) (keyed s a) b) ≡ operand (stepIn es) (sideDef t s a (direction b))
-    plain-side p =
-        let d =
-        long-side t s a (direction b) (omega (arith, side-length t s (i .node-len)))
-        ∙ long-plain (sideLen t s) (s .node) (s .offset) (s .limit) a (direction b) p in
+    plain-operand p =
+        let d = plain-side t s a (direction b) (omega (arith, side-length t s (i .node-len))) p in
         let r = side-reach l i in
         rw (plain-keyed s p a, d) (real-read f (s .node) (sideLen t s) a b (r .node) (omega (arith, r .short, r .value)) (rw d at there))
 
-    pub window-side : plainOr (s .offset) (s .limit) true false ≡ false
-        → Step (windowStep (getD firsts (68 * s .node + 66) 0) (getD firsts (68 * s .node + 67) 0) a b)
+    pub window-operand : plainOr (s .offset) (s .limit) true false ≡ false
+        → Step (windowStep (getD firsts (68 * s .node + 66) 0) (getD firsts (68 * s .node + 67) 0) (s .offset) (keyed s a) b)
         ≡ operand (stepIn es) (sideDef t s a (direction b))
-    window-side p =
-        let d =
-        long-side t s a (direction b) (omega (arith, side-length t s (i .node-len)))
-        ∙ long-window (sideLen t s) (s .node) (s .offset) (s .limit) a (direction b) p in
+    window-operand p =
+        let d = window-side t s a (direction b) (omega (arith, side-length t s (i .node-len))) p in
         let w : WindowOf t (s .node) (s .offset) (sideLen t s)
         = record { side = s; of = i .of; node = refl; offset = refl; outputs = refl; long = omega (arith, side-length t s (i .node-len)) } in
-        rw d (window-read f (s .node) (s .offset) (sideLen t s) a b w (rw d at there))
+        rw d (window-read f (s .node) (s .offset) (sideLen t s) (keyed s a) b w (rw d at there))
 
 -- A clause's own definition.
 pub this-read : {t : List Node} {x : Join} {v : ℕ} {firsts : List ℕ} {es : List Stored} (b : Bool) → FirstsOf t firsts es → JoinIn t x v → x .node < 319

@@ -6,10 +6,11 @@ use mathlib.Core.List.{List}
 use Prim.Native.Nat.{ℕ, zero, suc, _+_, _*_, _≤_}
 use native.Mathlib.Decide.{decLe}
 use native.Mathlib.Omega.{arith}
-use Rattle.totdb.specs.Nodes.{Node, sideLen, sideLit, plainOr}
+use Rattle.totdb.specs.Nodes.{Node, sideLen, sideLit}
 use Rattle.totdb.specs.declared.Side.{Side}
-use Rattle.cert.specs.Definitions.{Key, real, window, stored, lacking, oneDef, realDef, windowDef, longDef, sideDef}
+use Rattle.cert.specs.Definitions.{Key, Definition, real, stored, lacking, oneDef, realDef, windowDef, sideDef}
 use Rattle.cert.specs.Requests.{lacks}
+use Rattle.cert.proofs.Keyed.{KeyOf, by-form, only-if-zero, if-above, only-if-above}
 use Rattle.define.specs.Tables.{direction}
 use Rattle.clauses.specs.Joins.{Within}
 
@@ -48,28 +49,17 @@ module _ (b : Bool) (m i : ℕ) (w : Within b m i) where
       by false zero f g = refl
       by false (suc i) f g = there-yes (decLe (suc i) m) (real n (suc i)) 1 (g refl)
 
-  window-there : (n f : ℕ) → lacks (windowDef n f m i (direction (not b))) ≡ false
-  unfolding windowDef lacks direction
-  window-there n f = by b i (w .above) (w .below)
+  window-there : (n f v : ℕ) → KeyOf f i v → lacks (windowDef n f m v (direction (not b))) ≡ false
+  unfolding lacks direction
+  window-there n f v k = by b i (w .above) (w .below) k
     where
-      by : (b : Bool) (i : ℕ) → (b ≡ true → 1 ≤ i) → (b ≡ false → i ≤ m) → lacks (windowDef n f m i (direction (not b))) ≡ false
-      by true zero g h = absurd (omega (arith, g refl))
-      by true (suc i) g h = refl
-      by false zero g h = refl
-      by false (suc i) g h = there-yes (decLe (suc i) m) (window n f m) (2 * i + 2) (h refl)
-
-  long-there : (n f k : ℕ) → lacks (longDef m n f k i (direction (not b))) ≡ false
-  unfolding longDef plainOr
-  long-there n zero zero = real-there n
-  long-there n zero (suc k) = window-there n zero
-  long-there n (suc f) k = window-there n (suc f)
+      by : (b : Bool) (i : ℕ) → (b ≡ true → 1 ≤ i) → (b ≡ false → i ≤ m) → KeyOf f i v → lacks (windowDef n f m v (direction (not b))) ≡ false
+      by true zero g h k = absurd (omega (arith, g refl))
+      by true (suc i) g h k = rw (if-above n f m i v k)
+      by false zero g h k = rw (only-if-zero n f m v k)
+      by false (suc i) g h k = rw (only-if-above n f m i v k (h refl))
 
 pub side-there : (t : List Node) (s : Side) (i : ℕ) (b : Bool) → Within b (sideLen t s) i → lacks (sideDef t s i (direction (not b))) ≡ false
-unfolding sideDef
-side-there t s i b w = by (decLe (sideLen t s) 1)
-  where
-    by : (c : Dec (sideLen t s ≤ 1))
-        → lacks (dite c (λ _. oneDef (sideLit t s 1) i (direction (not b)))
-        (λ _. longDef (sideLen t s) (s .node) (s .offset) (s .limit) i (direction (not b)))) ≡ false
-    by (yes p) = one-there b (sideLen t s) i w (sideLit t s 1) p
-    by (no p) = long-there b (sideLen t s) i w (s .node) (s .offset) (s .limit)
+side-there t s i b w =
+    by-form (λ (e : Definition). lacks e ≡ false) t s i (direction (not b)) (one-there b (sideLen t s) i w (sideLit t s 1))
+    (λ _ _ _. real-there b (sideLen t s) i w (s .node)) (λ _ _ v k. window-there b (sideLen t s) i w (s .node) (s .offset) v k)

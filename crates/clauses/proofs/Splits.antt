@@ -10,8 +10,9 @@ use Rattle.memo.proofs.Unrolled.{each-append}
 use Rattle.totdb.specs.Nodes.{Node, join, at, leaves, len, range, sideLen, lengthOver}
 use Rattle.cert.specs.Definitions.{if, only-if}
 use Rattle.cert.specs.Requests.{Clause, request, clausesOf, clausesAt, ifClause, onlyIfClause, splits}
+use Rattle.cert.specs.Sized.{Sized, Fit}
 use Rattle.cert.specs.State.{State, writeClause}
-use Rattle.cert.proofs.Apart.{Sized, Fit, splits-mem}
+use Rattle.cert.proofs.Apart.{splits-mem}
 use Rattle.define.specs.Tables.{Lists, Memory, Does, Shown, direction}
 use Rattle.define.proofs.Does.{does-none, does-then, does-under, does-same}
 use Rattle.define.proofs.Sides.{side-length}
@@ -42,7 +43,7 @@ pub record Between (x : Join) (v : ℕ) (b : Bool) (low high : ℕ) : Type 0 whe
   pub short : high ≤ 64
   pub within : high ≤ v
 
-pub between : {ls os : List ℕ} {x : Join} {v : ℕ} {b : Bool} {low high p q sum : ℕ} → Shown ls os (λ t. JoinIn t x v)
+pub between : {ls os : List ℕ} {x : Join} {v : ℕ} {b : Bool} {low high p q sum : ℕ} {m : Memory} → Shown ls os (λ t. JoinIn t x v) m
     → p ≡ lengthOver (x .left) (x .«left_len») → q ≡ lengthOver (x .right) (x .«right_len») → sum ≡ splitSum v b
     → low ≡ sum - q → high ≡ min sum p → Between x v b low high
 between {x = x} {v} {b} s e f g d k =

@@ -17,12 +17,13 @@ use Rattle.derivation.specs.Operands.{operand, part, stepTokens}
 use Rattle.derivation.specs.declared.Part.{Part}
 use Rattle.derivation.specs.declared.SemDefinition.{SemDefinition}
 use Rattle.derivation.proofs.ClauseRecords.{clause-step}
-use Rattle.define.specs.Tables.{Memory, Does, SideIn, RealOf, direction}
+use Rattle.define.specs.Tables.{Lists, Memory, Exact, Does, SideIn, RealOf, direction}
 use Rattle.define.proofs.Does.{does-then, does-under, does-same}
 use Rattle.define.proofs.Sides.{real-keys}
 use Rattle.clauses.specs.declared.Join.{Join}
+use Rattle.clauses.specs.Firsts.{SideRead}
 use Rattle.clauses.specs.Joins.{ClauseIn, clauseOf}
-use Rattle.clauses.proofs.Standing.{clauseRecords}
+use Rattle.clauses.proofs.Standing.{clauseRecords, firsts-of}
 use Rattle.clauses.proofs.Joins.{left-in, right-in, this-in}
 use Rattle.clauses.proofs.Lacking.{this-there, side-there}
 
@@ -55,6 +56,15 @@ module _ {x : Join} {v i j : ℕ} {b : Bool} where
             (this-there (len (at t (x .node))) (x .node) v b (k .of .above) (omega (arith, k .of .within, k .of .of .own-len))),
       )
 
+  -- What is known of the two sides.
+  pub left-looks : (t : List Node) → ClauseIn t x v i j b
+      → SideIn t (x .left) (x .«left_len») i × (lacks (sideDef t (x .left) i (direction (not b))) ≡ false)
+  left-looks t k = (left-in k, side-there t (x .left) i b (k .left))
+
+  pub right-looks : (t : List Node) → ClauseIn t x v i j b
+      → SideIn t (x .right) (x .«right_len») j × (lacks (sideDef t (x .right) j (direction (not b))) ≡ false)
+  right-looks t k = (right-in k, side-there t (x .right) j b (k .right))
+
   pub does-looks : {ls os : List ℕ} {m n p q : Memory}
       → Does ls os (λ t. SideIn t (x .left) (x .«left_len») i × (lacks (sideDef t (x .left) i (direction (not b))) ≡ false))
       (λ t u. each (lookUp t) (keyOf (sideDef t (x .left) i (direction (not b)))) u) m n
@@ -64,8 +74,22 @@ module _ {x : Join} {v i j : ℕ} {b : Bool} where
       → Does ls os (λ t. ClauseIn t x v i j b) (λ t u. each (lookUp t) (looksOf (clauseOf t x v i j b)) u) m q
   does-looks d e f =
       does-same (λ t s l k. looks-is t k s)
-      (does-then (does-under (λ t l k. (left-in k, side-there t (x .left) i b (k .left))) d)
-      (does-then (does-under (λ t l k. (right-in k, side-there t (x .right) j b (k .right))) e) (does-under (λ t l k. this-in k) f)))
+      (does-then (does-under (λ t l k. left-looks t k) d)
+      (does-then (does-under (λ t l k. right-looks t k) e) (does-under (λ t l k. this-in k) f)))
+
+  -- What is read of the sides, of a memory that is not full.
+  module _ {ls os : List ℕ} {m : Memory} (clear : m .out .cursor .full ≡ false) where
+    pub left-read : {c : ℕ} {t : List Node} {s : State} → Lists ls os t → ClauseIn t x v i j b → Exact c t m s
+        → SideRead ls os (m .firsts) t (s .stored) (x .left) (x .«left_len») i (not b)
+    left-read {t = t} l k e =
+        let q = left-looks t k in
+        record { lists = l; side = q .0; firsts-of = firsts-of clear e; there = q .1 }
+
+    pub right-read : {c : ℕ} {t : List Node} {s : State} → Lists ls os t → ClauseIn t x v i j b → Exact c t m s
+        → SideRead ls os (m .firsts) t (s .stored) (x .right) (x .«right_len») j (not b)
+    right-read {t = t} l k e =
+        let q = right-looks t k in
+        record { lists = l; side = q .0; firsts-of = firsts-of clear e; there = q .1 }
 
   pub does-clause : {ls os : List ℕ} {m q r : Memory}
       → Does ls os (λ t. ClauseIn t x v i j b) (λ t u. each (lookUp t) (looksOf (clauseOf t x v i j b)) u) m q

@@ -2,15 +2,16 @@
 use mathlib.Core.Path.{_≡_}
 use mathlib.Core.Bool.{Bool, true, false, cond, not, _&&_, _||_}
 use mathlib.Core.List.{List}
-use Prim.Native.Nat.{ℕ, zero, suc, _+_, _*_, _<_}
+use Prim.Native.Nat.{ℕ, zero, suc, _+_, _-_, _*_, _<_}
 use lib.Dec.{eqb, ltb, leb}
 use lib.ListN.{getD}
 use Rattle.derivation.specs.Operands.{nextStep}
 use Rattle.totdb.specs.Nodes.{Node, lengthOver, plainOr, keyed}
 use Rattle.totdb.specs.declared.Side.{Side}
-use Rattle.cert.specs.Definitions.{Key}
+use Rattle.cert.specs.Definitions.{Key, sideDef}
+use Rattle.cert.specs.Requests.{lacks}
 use Rattle.cert.specs.State.{Stored, fromIn}
-use Rattle.define.specs.Tables.{slot, Used}
+use Rattle.define.specs.Tables.{slot, Used, direction, Lists, SideIn}
 use Rattle.clauses.specs.declared.Join.{Join}
 
 -- The step k places after the first. It stops where `nextStep` does.
@@ -24,17 +25,24 @@ realStep first zero b = first
 realStep first (suc v) true = nextStep first
 realStep first (suc v) false = first
 
--- Of the a-th value of a window: the sum of value 0, then if and only-if in turn.
-unfoldable pub windowStep : ℕ → ℕ → ℕ → Bool → ℕ
+-- Of a window of offset f, by the key of a value: 0 is its sum of value 0; after that if and only-if in turn, from the key f + 1 on.
+unfoldable pub windowStep : ℕ → ℕ → ℕ → ℕ → Bool → ℕ
 unfolding stepAt
-windowStep origin first zero b = origin
-windowStep origin first (suc i) true = stepAt first (2 * i + 1)
-windowStep origin first (suc i) false = stepAt first (2 * i)
+windowStep origin first f zero b = origin
+windowStep origin first f (suc v) true = stepAt first (2 * (v - f) + 1)
+windowStep origin first f (suc v) false = stepAt first (2 * (v - f))
 
 -- The table of first steps is that of what is stored, over the nodes t.
 pub record FirstsOf (t : List Node) (firsts : List ℕ) (es : List Stored) : Type 0 where
   pub is : (k : Key) → Used t k → getD firsts (slot k) 0 ≡ fromIn es k
   pub few : (k : Key) → fromIn es k < 2000000
+
+-- What is read of the a-th value of a side: the nodes, and the steps of what is stored, its definition among it. The flag is that of only-if.
+pub record SideRead (ls os firsts : List ℕ) (t : List Node) (es : List Stored) (s : Side) (k a : ℕ) (b : Bool) : Type 0 where
+  pub lists : Lists ls os t
+  pub side : SideIn t s k a
+  pub firsts-of : FirstsOf t firsts es
+  pub there : lacks (sideDef t s a (direction b)) ≡ false
 
 -- ---- what is stored
 

@@ -4,19 +4,19 @@ use derivation::Part;
 use derivation::SemDefinition;
 use totdb::Side;
 ghost use mathlib.Core.Path.{_≡_};
-ghost use mathlib.Core.Bool.{Bool, false};
+ghost use mathlib.Core.Bool.{Bool};
 ghost use mathlib.Core.List.{List};
 ghost use Prim.Native.Nat.{ℕ, _≤_, _<_, _+_, _-_, _*_, min};
 ghost use lib.ListN.{length, getD};
 ghost use Rattle.memo.specs.Visit.{each};
 ghost use Rattle.totdb.specs.Nodes.{Node, at, output, lengthOver};
 ghost use Rattle.cert.specs.Definitions.{sideDef, Key, oneDef};
-ghost use Rattle.cert.specs.Requests.{request, clausesOf, lacks, looksOf};
+ghost use Rattle.cert.specs.Requests.{request, clausesOf, looksOf};
 ghost use Rattle.cert.specs.State.{lookUp, writeClause, Stored, stepIn, write};
 ghost use Rattle.derivation.specs.Operands.{operand, part};
 ghost use Rattle.derivation.specs.declared.SemDefinition.the-variants.{Step};
 ghost use Rattle.define.specs.Tables.{memory, Shown, Does, Sizes, direction, SideIn, Lists};
-ghost use Rattle.clauses.specs.Firsts.{stepAt, realStep, windowStep, FirstsOf, hasFirst, sideStored, clauseStored};
+ghost use Rattle.clauses.specs.Firsts.{stepAt, realStep, windowStep, SideRead, hasFirst, sideStored, clauseStored};
 ghost use Rattle.clauses.specs.Joins.{JoinIn, ClauseIn, SideReach, ClauseReach, Within, clauseOf, clausePart, lastLiteral, splitSum, leftValue};
 
 // A join with its sides, and the lengths of the nodes: its own and those of its sides.
@@ -68,16 +68,23 @@ fn step_at(first: u32, k: u32) -> u32
     if first < 2000000 { first + k } else { first }
 }
 
-// The a-th value of a window that is stored: after the sum of value 0, if and only-if in turn.
-fn window_definition(firsts: &[u32], node: usize, a: usize, only_if: bool) -> SemDefinition
-    requires { ⌜ (length (now firsts) ≡ 21692) × (node < 319) × (a ≤ 65) ⌝ }
-    ensures { λ r. ⌜ r ≡ Step (windowStep (getD (now (firsts .entry)) (68 * node + 66) 0) (getD (now (firsts .entry)) (68 * node + 67) 0) a «only_if») ⌝ }
+// The definition of a window that is stored, by the key of a value: 0 is the sum of value 0, after that
+// if and only-if in turn.
+fn window_definition(
+    firsts: &[u32],
+    node: usize,
+    offset: usize,
+    key: usize,
+    only_if: bool,
+) -> SemDefinition
+    requires { ⌜ (length (now firsts) ≡ 21692) × (node < 319) × (0 < key → offset < key) × (key ≤ offset + 65) ⌝ }
+    ensures { λ r. ⌜ r ≡ Step (windowStep (getD (now (firsts .entry)) (68 * node + 66) 0) (getD (now (firsts .entry)) (68 * node + 67) 0) offset key «only_if») ⌝ }
 {
-    if a == 0 {
+    if key == 0 {
         return SemDefinition::Step(firsts[68 * node + 66]);
     }
     let first = firsts[68 * node + 67];
-    let k = 2 * (a as u32 - 1);
+    let k = 2 * (key - offset - 1) as u32;
     if only_if {
         return SemDefinition::Step(step_at(first, k + 1));
     }
@@ -95,18 +102,20 @@ fn side_definition(
 ) -> SemDefinition
     requires { ⌜ length (now firsts) ≡ 21692 ⌝ }
     requires { ⌜ SideReach (now outputs) s «node_len» a ⌝ }
-    ensures { λ r. ⌜ ((ls : List ℕ) (t : List Node) (es : List Stored) → Lists ls (now (outputs .entry)) t → SideIn t s «node_len» a
-        → FirstsOf t (now (firsts .entry)) es → lacks (sideDef t s a (direction «only_if»)) ≡ false
+    requires { ⌜ ((ls : List ℕ) × (t : List Node) × (es : List Stored) × SideRead ls (now outputs) (now firsts) t es s «node_len» a «only_if») ⌝ }
+    ensures { λ r. ⌜ ((ls : List ℕ) (t : List Node) (es : List Stored)
+        → SideRead ls (now (outputs .entry)) (now (firsts .entry)) t es s «node_len» a «only_if»
         → r ≡ operand (stepIn es) (sideDef t s a (direction «only_if»))) ⌝ }
 {
     if s.len(node_len) <= 1 {
         let first = outputs[64 * s.node];
         return one_definition(s.literal(first, 1), a, only_if);
     }
+    let key = s.key(a);
     if s.is_plain() {
-        return real_definition(firsts, s.node, s.key(a), only_if);
+        return real_definition(firsts, s.node, key, only_if);
     }
-    window_definition(firsts, s.node, a, only_if)
+    window_definition(firsts, s.node, s.offset, key, only_if)
 }
 
 // The part of a clause at the a-th literal of a side: in an if clause negated, absent at 0; in an only-if
@@ -114,6 +123,7 @@ fn side_definition(
 fn part(outputs: &[u32], s: Side, node_len: usize, a: usize, only_if: bool) -> Part
     requires { ⌜ SideReach (now outputs) s «node_len» a ⌝ }
     requires { ⌜ Within «only_if» (lengthOver s «node_len») a ⌝ }
+    requires { ⌜ ((ls : List ℕ) × (t : List Node) × Lists ls (now outputs) t × SideIn t s «node_len» a) ⌝ }
     ensures { λ r. ⌜ ((ls : List ℕ) (t : List Node) → Lists ls (now (outputs .entry)) t → SideIn t s «node_len» a
         → Rattle.derivation.specs.Operands.part r ≡ clausePart «only_if» t s a) ⌝ }
 {
@@ -133,6 +143,7 @@ fn part(outputs: &[u32], s: Side, node_len: usize, a: usize, only_if: bool) -> P
 // The last literal of a clause: the output, in an only-if clause negated.
 fn own_literal(outputs: &[u32], x: Join, value: usize, only_if: bool) -> u32
     requires { ⌜ (length (now outputs) ≡ 20416) × (x .node < 319) × (1 ≤ value) × (value ≤ 64) ⌝ }
+    requires { ⌜ ((ls : List ℕ) × (t : List Node) × Lists ls (now outputs) t × JoinIn t x value) ⌝ }
     ensures { λ r. ⌜ ((ls : List ℕ) (t : List Node) → Lists ls (now (outputs .entry)) t → JoinIn t x value
         → r ≡ lastLiteral «only_if» (output (at t (x .node)) value)) ⌝ }
 {
@@ -154,6 +165,8 @@ fn put_clause(
 ) -> Out
     requires { ⌜ length (now firsts) ≡ 21692 ⌝ }
     requires { ⌜ ClauseReach (now outputs) x value i j «only_if» ⌝ }
+    requires { ⌜ ((ls h k : List ℕ) × Shown ls (now outputs) (λ t. ClauseIn t x value i j «only_if»)
+        (memory h (now firsts) k (now log) o)) ⌝ }
     ensures { λ r. ⌜ ((ls h k : List ℕ) → Does ls (now (outputs .entry)) (λ t. ClauseIn t x value i j «only_if»)
         (λ t s. write (clauseOf t x value i j «only_if») s)
         (memory h (now (firsts .entry)) k (now (log .entry)) o)
@@ -237,7 +250,8 @@ fn look_up_each(
     j: usize,
 ) -> Out
     requires { ⌜ Sizes (now firsts) (now steps) ⌝ }
-    requires { ⌜ ((b : Bool) × Shown (now leaves) (now outputs) (λ t. ClauseIn t x value i j b)) ⌝ }
+    requires { ⌜ ((h : List ℕ) × (b : Bool) × Shown (now leaves) (now outputs) (λ t. ClauseIn t x value i j b)
+        (memory h (now firsts) (now steps) (now log) o)) ⌝ }
     ensures { λ r. ⌜ ((h : List ℕ) (b : Bool) → Does (now (leaves .entry)) (now (outputs .entry)) (λ t. ClauseIn t x value i j b)
         (λ t s. each (lookUp t) (looksOf (clauseOf t x value i j b)) s)
         (memory h (now (firsts .entry)) (now (steps .entry)) (now (log .entry)) o)
@@ -282,7 +296,8 @@ fn look_up(
     j: usize,
 ) -> Out
     requires { ⌜ Sizes (now firsts) (now steps) ⌝ }
-    requires { ⌜ ((b : Bool) × Shown (now leaves) (now outputs) (λ t. ClauseIn t x value i j b)) ⌝ }
+    requires { ⌜ ((h : List ℕ) × (b : Bool) × Shown (now leaves) (now outputs) (λ t. ClauseIn t x value i j b)
+        (memory h (now firsts) (now steps) (now log) o)) ⌝ }
     ensures { λ r. ⌜ ((h : List ℕ) (b : Bool) → Does (now (leaves .entry)) (now (outputs .entry)) (λ t. ClauseIn t x value i j b)
         (λ t s. each (lookUp t) (looksOf (clauseOf t x value i j b)) s)
         (memory h (now (firsts .entry)) (now (steps .entry)) (now (log .entry)) o)
@@ -309,7 +324,8 @@ fn write_clause(
     only_if: bool,
 ) -> Out
     requires { ⌜ Sizes (now firsts) (now steps) ⌝ }
-    requires { ⌜ Shown (now leaves) (now outputs) (λ t. ClauseIn t x value i j «only_if») ⌝ }
+    requires { ⌜ ((h : List ℕ) × Shown (now leaves) (now outputs) (λ t. ClauseIn t x value i j «only_if»)
+        (memory h (now firsts) (now steps) (now log) o)) ⌝ }
     ensures { λ r. ⌜ ((h : List ℕ) → Does (now (leaves .entry)) (now (outputs .entry)) (λ t. ClauseIn t x value i j «only_if»)
         (λ t s. writeClause t (clauseOf t x value i j «only_if») s)
         (memory h (now (firsts .entry)) (now (steps .entry)) (now (log .entry)) o)
@@ -362,7 +378,8 @@ pub fn write_clauses(
     only_if: bool,
 ) -> Out
     requires { ⌜ Sizes (now firsts) (now steps) ⌝ }
-    requires { ⌜ Shown (now leaves) (now outputs) (λ t. JoinIn t x value) ⌝ }
+    requires { ⌜ ((h : List ℕ) × Shown (now leaves) (now outputs) (λ t. JoinIn t x value)
+        (memory h (now firsts) (now steps) (now log) o)) ⌝ }
     ensures { λ r. ⌜ ((h : List ℕ) → Does (now (leaves .entry)) (now (outputs .entry)) (λ t. JoinIn t x value)
         (λ t s. each (writeClause t) (clausesOf t (request (x .node) value (direction «only_if»))) s)
         (memory h (now (firsts .entry)) (now (steps .entry)) (now (log .entry)) o)

@@ -14,7 +14,7 @@ use Rattle.define.specs.declared.Out.{Out}
 use Rattle.player.specs.Player.{firstNo, questions, act}
 use Rattle.player.specs.declared.Command.{Command}
 use Rattle.player.proofs.Formed.{formed-act, all-offered}
-use Rattle.player.proofs.Verdicts.{play-stops, play-goes, play-over}
+use Rattle.player.proofs.Commands.{play-stops, play-goes, play-over}
 use Rattle.commands.specs.Standing.{Standing, Reported, Played, went, stopped, endedAs}
 use Rattle.commands.specs.declared.Ended.{Ended}
 use Rattle.commands.specs.declared.Totals.{Totals}

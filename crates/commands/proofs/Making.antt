@@ -19,7 +19,7 @@ use Rattle.nodes.proofs.Sides.{SideIs, leaf-side, join-side}
 use Rattle.player.proofs.Formed.{formed-act, all-offered, head-low}
 use Rattle.player.proofs.Sound.{JoinFits, join-fits, sideLeaves-length}
 use Rattle.player.proofs.Tree.{few-nodes, few-variables, leafCount-leaf, leafCount-join, treed-act}
-use Rattle.player.proofs.Verdicts.{play-goes}
+use Rattle.player.proofs.Commands.{play-goes}
 use Rattle.commands.specs.Standing.{Standing, Played, went}
 use Rattle.commands.specs.declared.Ended.{Ended}
 use Rattle.commands.specs.declared.Totals.{Totals}
@@ -39,7 +39,7 @@ module _ {h : Head} {c : ℕ} {ns ls os held firsts steps log : List ℕ} {z : T
       (leaves : e .totals .leaves ≡ leafCount (s .nodes ++ (a ∷ []))) (next : e .totals .variable ≡ s .next-variable + i) where
     after : Standing h c ns′ ls′ os′ (memory held firsts steps log (z .out)) (e .totals) (make a i s)
     after = record {
-      formed = subst (λ (u : State). Rattle.player.proofs.Formed.Formed h u) is (formed-act h k s asked (st .formed));
+      formed = subst (λ (u : State). Rattle.player.specs.Formed.Formed h u) is (formed-act h k s asked (st .formed));
       lists = unfold make in lists;
       rows = unfold make in rows;
       room = st .room;

@@ -9,10 +9,11 @@ use lib.ListN.{length, getD}
 use Rattle.record.specs.Record.{steps}
 use Rattle.totdb.specs.Nodes.{Node, taken, sideLen, range}
 use Rattle.totdb.specs.declared.Side.{Side}
+use Rattle.cert.specs.Counted.{KeyIn}
 use Rattle.cert.specs.Definitions.{Key, real, window-zero, window, keyRecords}
 use Rattle.cert.specs.State.{Stored, State, keys, fromIn, storedSteps}
 use Rattle.cert.proofs.Counts.{key-count, defined-more}
-use Rattle.cert.proofs.Rules.{KeyIn, at-more, sideLen-more}
+use Rattle.cert.proofs.Rules.{at-more, sideLen-more}
 use Rattle.cert.proofs.Tables.{length-snoc}
 use Rattle.define.specs.Tables.{Lists, Memory, Exact, SideOf, left-of, right-of, WindowOf, Used, slot}
 use Rattle.define.proofs.Entries.{from-missing}

@@ -10,8 +10,9 @@ use Rattle.record.specs.Writing.{buffer, Puts, puts, settled, filled}
 use Rattle.totdb.specs.Nodes.{Node}
 use Rattle.cert.specs.Definitions.{keyRecords}
 use Rattle.cert.specs.Requests.{clauseTokens}
+use Rattle.cert.specs.Sized.{Sized}
 use Rattle.cert.specs.State.{State, Head, stepIn, storedSteps, keys, define, write, hold, requests, serve}
-use Rattle.cert.proofs.Apart.{Sized, sized-ok}
+use Rattle.cert.proofs.Apart.{sized-ok}
 use Rattle.cert.proofs.Counts.{steps-append}
 use Rattle.cert.proofs.Serving.{clauses-append, serve-in}
 use Rattle.define.specs.Tables.{memory, Exact, StandsFor, exact, over, Shown, Does}
@@ -111,8 +112,9 @@ module _ {h : Head} {c : ℕ} {ns ls os held firsts ks log : List ℕ} {z : Tota
     request-in : RequestIn ns (s .nodes) n v
     request-in = record { rows = st .rows; there = fitting .there; above = fitting .low; within = fitting .high }
 
-    pub request-shown : Shown ls os (λ t. RequestIn ns t n v)
-    request-shown = record { table = s .nodes; lists = st .lists; holds = request-in }
+    pub request-shown : Shown ls os (λ t. RequestIn ns t n v) (memory held firsts ks log (z .out))
+    request-shown =
+        record { capacity = c; table = s .nodes; state = s; lists = st .lists; holds = request-in; stands = exact (st .room) (st .exact) }
 
     pub request-tables : Tables held firsts ks
     request-tables =

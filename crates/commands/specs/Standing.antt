@@ -4,15 +4,17 @@ use mathlib.Core.Bool.{false, cond}
 use mathlib.Core.List.{List, _++_}
 use Prim.Native.Nat.{ℕ, _-_}
 use lib.ListN.{length, replicate}
+use Rattle.number.specs.Number.{writtenRefusal}
+use Rattle.number.specs.declared.Written.the-variants.{Full}
 use Rattle.record.specs.Record.{bytes, clauses}
 use Rattle.totdb.specs.Nodes.{leafCount}
 use Rattle.cert.specs.State.{State, Head}
 use Rattle.define.specs.Tables.{Lists, Memory, memory, Exact}
 use Rattle.define.specs.declared.Out.{Out}
 use Rattle.request.specs.Rows.{Rows}
+use Rattle.player.specs.Formed.{Formed}
 use Rattle.player.specs.Player.{play, accepted, refused}
 use Rattle.player.specs.declared.Command.{Command}
-use Rattle.player.proofs.Formed.{Formed}
 use Rattle.commands.specs.declared.Ended.{Ended}
 use Rattle.commands.specs.declared.Totals.{Totals}
 
@@ -60,5 +62,5 @@ pub record ReadyNodes (ns ls os : List ℕ) (z : Totals) : Type 0 where
 -- A command that began with the totals z and wrote up to o. Where a number found no room nothing is changed.
 unfoldable pub endedAs : Totals → Out → Ended
 endedAs z o =
-    cond (o .cursor .full) (record { number = 14; totals = z })
+    cond (o .cursor .full) (record { number = writtenRefusal Full; totals = z })
     (record { number = 0; totals = record { out = o; nodes = z .nodes; leaves = z .leaves; variable = z .variable } })

@@ -39,7 +39,7 @@ fn leaf(
     first_variable: u32,
     literal: u32,
 ) -> Ended
-    requires { ⌜ ReadyNodes (now nodes) (now leaves) (now outputs) t ⌝ }
+    requires { ⌜ ((r : ReadyNodes (now nodes) (now leaves) (now outputs) t) × («first_variable» ≡ r .ready .head .variable)) ⌝ }
     ensures { λ r. ⌜ ((h : Head) (c : ℕ) (held firsts steps log : List ℕ) (s : State) → «first_variable» ≡ h .variable
         → Standing h c (now (nodes .entry)) (now (leaves .entry)) (now (outputs .entry)) (memory held firsts steps log (t .out)) t s
         → Played h c (Command.Leaf literal) s (now (nodes .exit)) (now (leaves .exit)) (now (outputs .exit)) held firsts steps log r) ⌝ }
@@ -105,6 +105,7 @@ fn fits(s: Side, node_len: usize) -> bool
 // Questions 8, 9 and 10.
 fn ask_join(nodes: &[u32], count: usize, l: Side, r: Side) -> u32
     requires { ⌜ (length (now nodes) ≡ 2552) × (count ≤ 319) ⌝ }
+    requires { ⌜ ((t : List Node) × Rows (now nodes) t × (length t ≡ count)) ⌝ }
     ensures { λ e. ⌜ ((h : Head) (t : List Node) → Rows (now (nodes .entry)) t → length t ≡ count → e ≡ firstNo (questions h t (Command.Join l r))) ⌝ }
 {
     if count <= l.node {
@@ -198,6 +199,7 @@ fn end(log: &mut [u8], t: Totals, o: Out) -> Ended
 // Questions 8, 11 and 12.
 fn ask_request(nodes: &[u32], count: usize, node: usize, value: usize, direction: u32) -> u32
     requires { ⌜ (length (now nodes) ≡ 2552) × (count ≤ 319) ⌝ }
+    requires { ⌜ ((t : List Node) × Rows (now nodes) t × (length t ≡ count)) ⌝ }
     ensures { λ r. ⌜ ((h : Head) (t : List Node) → Rows (now (nodes .entry)) t → length t ≡ count
         → r ≡ firstNo (questions h t (Command.Request node value direction))) ⌝ }
 {
@@ -312,7 +314,8 @@ pub fn command(
     first_variable: u32,
     k: Command,
 ) -> Ended
-    requires { ⌜ Ready (now nodes) (now leaves) (now outputs) (now held) (now firsts) (now steps) (now log) t ⌝ }
+    requires { ⌜ ((r : Ready (now nodes) (now leaves) (now outputs) (now held) (now firsts) (now steps) (now log) t)
+        × («first_variable» ≡ r .head .variable)) ⌝ }
     ensures { λ r. ⌜ ((h : Head) (c : ℕ) (s : State) → «first_variable» ≡ h .variable
         → Standing h c (now (nodes .entry)) (now (leaves .entry)) (now (outputs .entry))
         (memory (now (held .entry)) (now (firsts .entry)) (now (steps .entry)) (now (log .entry)) (t .out)) t s

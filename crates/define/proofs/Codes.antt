@@ -11,7 +11,7 @@ use Rattle.memo.specs.Visit.{each}
 use Rattle.memo.proofs.Unrolled.{each-append}
 use Rattle.record.specs.Record.{Record, numbers, steps, sum}
 use Rattle.record.specs.Writing.{Buffer, Puts, signed}
-use Rattle.totdb.specs.Nodes.{Node, at, leaves, len, output, outputs, range}
+use Rattle.totdb.specs.Nodes.{Node, at, len, outputs, range}
 use Rattle.cert.specs.Definitions.{Key, real, realRecords, window-zero, window, keyRecords, atLeastZero, windowIf, windowOnlyIf, windowReals}
 use Rattle.cert.specs.State.{State, fromIn, stepIn, lookUp}
 use Rattle.cert.proofs.Apart.{length-range}
@@ -19,7 +19,7 @@ use Rattle.cert.proofs.Counts.{steps-append}
 use Rattle.cert.proofs.WindowDerivations.{range-append}
 use Rattle.window.specs.Window.{Handed}
 use Rattle.define.specs.Tables.{Lists, Used, slot, Memory, Exact, Shown, Does, RealOf, WindowOf, WindowIn}
-use Rattle.define.specs.Stores.{outputIn, Inside}
+use Rattle.define.specs.Stores.{outputIn, Inside, NodeOf}
 use Rattle.define.proofs.Defines.{few-steps}
 use Rattle.define.proofs.Does.{does-none, does-then, does-under, does-same, shown-to}
 use Rattle.define.proofs.Reals.{at-least-zero}
@@ -37,7 +37,7 @@ pub record RealBounds (ls os : List ℕ) (n k v : ℕ) : Type 0 where
   pub outputs-size : lib.ListN.length os ≡ 20416
   pub low : outputIn os n k v ≤ 2 ^ 30
 
-pub real-bounds : {ls os : List ℕ} {n k v : ℕ} → Shown ls os (λ t. RealOf t n k v) → RealBounds ls os n k v
+pub real-bounds : {ls os : List ℕ} {n k v : ℕ} {p : Memory} → Shown ls os (λ t. RealOf t n k v) p → RealBounds ls os n k v
 real-bounds {n = n} {k = k} {v = v} h =
     let r = h .holds in
     let b = node-short (h .lists) n (r .there) in
@@ -50,14 +50,17 @@ real-bounds {n = n} {k = k} {v = v} h =
       low = output-low (h .lists) n k v r;
     }
 
-pub real-writes : {b d : Buffer} {ls os : List ℕ} {n k v o : ℕ} → o ≡ outputIn os n k v
-    → ((x : Node) → leaves x ≡ take (64 * n + k - 64 * n) (drop (64 * n) ls) → (1 ≤ v → v ≤ len x → output x v ≡ o)
-    → Puts b (flatMap numbers (realRecords x v)) d)
-    → (t : List Node) (f : Key → ℕ → ℕ) → Lists ls os t → RealOf t n k v → Puts b (flatMap numbers (keyRecords f t (real n v))) d
-unfolding keyRecords
-real-writes {n = n} {k = k} {v = v} e w t f l r =
-    let q : 64 * n + k - 64 * n ≡ len (at t n) = omega (arith, r .node-len) in
-    w (at t n) (rw q (sym (l .row n (r .there) .leaf-list))) (λ a b. rw e (output-is l n k v r a b))
+module _ {ls os : List ℕ} {n k v o : ℕ} (e : o ≡ outputIn os n k v) where
+  pub real-node : (t : List Node) → Lists ls os t → RealOf t n k v → NodeOf (take (64 * n + k - 64 * n) (drop (64 * n) ls)) v o (at t n)
+  real-node t l r =
+      let q : 64 * n + k - 64 * n ≡ len (at t n) = omega (arith, r .node-len) in
+      record { leaf-list = rw q (sym (l .row n (r .there) .leaf-list)); literal = λ a b. rw e (output-is l n k v r a b) }
+
+  pub real-writes : {b d : Buffer}
+      → ((x : Node) → NodeOf (take (64 * n + k - 64 * n) (drop (64 * n) ls)) v o x → Puts b (flatMap numbers (realRecords x v)) d)
+      → (t : List Node) (f : Key → ℕ → ℕ) → Lists ls os t → RealOf t n k v → Puts b (flatMap numbers (keyRecords f t (real n v))) d
+  unfolding keyRecords
+  real-writes w t f l r = w (at t n) (real-node t l r)
 
 pub real-count : {n k v i : ℕ} → ((x : Node) → len x ≡ k → i ≡ steps (realRecords x v)) → (t : List Node) (f : Key → ℕ → ℕ) → RealOf t n k v
     → i ≡ steps (keyRecords f t (real n v))
@@ -69,7 +72,7 @@ real-count {n = n} w t f r = w (at t n) (sym (r .node-len))
 pub part-short : (a k : ℕ) (l : List ℕ) → k ≤ 64 → length (take (a + k - a) (drop a l)) ≤ 64
 part-short a k l h = rw (length-take (a + k - a) (drop a l)) (omega arith)
 
-pub window-bounds : {ls os : List ℕ} {n k f m : ℕ} → Shown ls os (λ t. WindowIn t n k f m) → Inside os n f m
+pub window-bounds : {ls os : List ℕ} {n k f m : ℕ} {p : Memory} → Shown ls os (λ t. WindowIn t n k f m) p → Inside os n f m
 window-bounds {n = n} {f = f} {m = m} h =
     let w = window-inside (h .lists) (h .holds .shown) in
     let b = node-short (h .lists) n (w .0) in
@@ -142,7 +145,7 @@ module _ {ls os : List ℕ} {n k f m i : ℕ} (h : i < m) where
       let b = window-inside l (w .shown) in
       record { there = b .0; node-len = w .node-len; value = omega (arith, b, w .node-len) }
 
-  pub real-shown : Shown ls os (λ t. WindowIn t n k f m) → Shown ls os (λ t. RealOf t n k (f + i + 1))
+  pub real-shown : {p : Memory} → Shown ls os (λ t. WindowIn t n k f m) p → Shown ls os (λ t. RealOf t n k (f + i + 1)) p
   real-shown s = shown-to real-in s
 
   pub reals-more : {p a b : Memory} → Does ls os (λ t. WindowIn t n k f m) (λ t s. each (lookUp t) (windowReals n f i) s) p a

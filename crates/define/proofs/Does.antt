@@ -29,6 +29,11 @@ Grows f = (c : ℕ) (m : Memory) (t : List Node) (s : State) → Over c m s → 
 
 -- ---- acts
 
+-- Where the log is not full the tables stand for the state.
+pub exact-of : {c : ℕ} {t : List Node} {m : Memory} {s : State} → m .out .cursor .full ≡ false → StandsFor c t m s → Exact c t m s
+exact-of e (exact h x) = x
+exact-of e (over h x) = true-false h e
+
 module _ {ls os : List ℕ} {P : List Node → Type 0} where
   pub does-none : {m : Memory} → Does ls os P (λ t s. s) m m
   does-none = record { does = λ c t s l p x. x }
@@ -55,13 +60,28 @@ module _ {ls os : List ℕ} {P : List Node → Type 0} where
   -- Where it was not, the tables stand for the state.
   pub does-open : {f : List Node → State → State} {m n : Memory} → m .out .cursor .full ≡ false
       → ((c : ℕ) (t : List Node) (s : State) → Lists ls os t → P t → Exact c t m s → StandsFor c t n (f t s)) → Does ls os P f m n
-  does-open {f} {m} {n} e h = record { does = λ c t s l p x. by c t s l p x }
-    where
-      by : (c : ℕ) (t : List Node) (s : State) → Lists ls os t → P t → StandsFor c t m s → StandsFor c t n (f t s)
-      by c t s l p (exact k x) = h c t s l p x
-      by c t s l p (over k x) = true-false k e
+  does-open e h = record { does = λ c t s l p x. h c t s l p (exact-of e x) }
 
 -- ---- what calls need
 
-pub shown-to : {ls os : List ℕ} {P Q : List Node → Type 0} → ((t : List Node) → Lists ls os t → P t → Q t) → Shown ls os P → Shown ls os Q
-shown-to f s = record { table = s .table; lists = s .lists; holds = f (s .table) (s .lists) (s .holds) }
+module _ {ls os : List ℕ} {P Q : List Node → Type 0} (to : (t : List Node) → Lists ls os t → P t → Q t) where
+  pub shown-to : {m : Memory} → Shown ls os P m → Shown ls os Q m
+  shown-to s = record {
+    capacity = s .capacity;
+    table = s .table;
+    state = s .state;
+    lists = s .lists;
+    holds = to (s .table) (s .lists) (s .holds);
+    stands = s .stands;
+  }
+
+  -- After a call.
+  pub shown-after : {f : List Node → State → State} {m n : Memory} → Does ls os Q f m n → Shown ls os P m → Shown ls os P n
+  shown-after {f} d s = record {
+    capacity = s .capacity;
+    table = s .table;
+    state = f (s .table) (s .state);
+    lists = s .lists;
+    holds = s .holds;
+    stands = d .does (s .capacity) (s .table) (s .state) (s .lists) (to (s .table) (s .lists) (s .holds)) (s .stands);
+  }

@@ -20,10 +20,10 @@ use Rattle.cert.specs.State.{State, keys, stepIn, define, lookUp}
 use Rattle.cert.proofs.Fits.{KeyFits, key-falls}
 use Rattle.cert.proofs.Serving.{define-keys}
 use Rattle.define.specs.declared.Out.{Out}
-use Rattle.define.specs.Tables.{Lists, Used, WindowOf, slot, Memory, memory, Exact, Over, StandsFor, exact, over, Does}
-use Rattle.define.specs.Stores.{kept, storeSteps, moved, New, DoesFrom}
+use Rattle.define.specs.Tables.{Lists, Used, WindowOf, slot, Memory, memory, Exact, Over, StandsFor, exact, over, Shown, Does}
+use Rattle.define.specs.Stores.{kept, storeSteps, moved, New, ShownFrom, DoesFrom}
 use Rattle.define.proofs.Defines.{defined}
-use Rattle.define.proofs.Does.{grown, Grows, does-full, does-open}
+use Rattle.define.proofs.Does.{grown, Grows, exact-of, does-full, does-open}
 use Rattle.define.proofs.Entries.{from-missing}
 use Rattle.define.proofs.Slots.{Named, window-named}
 use Rattle.define.proofs.Written.{true-false}
@@ -127,19 +127,44 @@ module _ {ls os : List ℕ} {P : List Node → Type 0} (k : Key) (m : Memory) wh
         rw q (d .does c t s l (p, record { new = i }) (exact h x)))
 
 -- The sum of value 0, the real definitions, then the rest.
-pub window-does : {ls os : List ℕ} {P : List Node → Type 0} (n f m : ℕ) {p a b r : Memory} → p .out .cursor .full ≡ false
-    → getD (p .firsts) (slot (window n f m)) 0 ≡ 0 → ((t : List Node) → P t → WindowOf t n f m)
-    → Does ls os (λ t. WindowOf t n f m) (λ t s. lookUp t (window-zero n f m) s) p a
-    → Does ls os P (λ t s. each (lookUp t) (windowReals n f m) s) a b
-    → DoesFrom ls os (λ t s. WindowOf t n f m × New (window n f m) s) (λ t s. define t (window n f m) s) b r
-    → Does ls os P (λ t s. lookUp t (window n f m) s) p r
-window-does n f m h z shown first second third = does-open h
-    (λ c t s l q x.
-    let w = shown t q in
-    let u = window-named l w in
-    let i = not-there x (window n f m) (u .used) z in
-    let same : each (lookUp t) (pulls (window n f m)) s ≡ each (lookUp t) (windowReals n f m) (lookUp t (window-zero n f m) s) =
-    (unfold each pulls in refl) in
-    rw (look-up-new t (window n f m) (u .fits) s i, same)
-    (third .does c t _ l (w, subst (New (window n f m)) same (still-new t (window n f m) (u .fits) s i))
-    (second .does c t _ l q (first .does c t s l w (exact h x)))))
+module _ {ls os : List ℕ} {P : List Node → Type 0} (n f m : ℕ) {p a b : Memory} (h : p .out .cursor .full ≡ false)
+    (z : getD (p .firsts) (slot (window n f m)) 0 ≡ 0) (shown : (t : List Node) → P t → WindowOf t n f m)
+    (first : Does ls os (λ t. WindowOf t n f m) (λ t s. lookUp t (window-zero n f m) s) p a)
+    (second : Does ls os P (λ t s. each (lookUp t) (windowReals n f m) s) a b) where
+  abbrev pulled : List Node → State → State
+  pulled t s = each (lookUp t) (windowReals n f m) (lookUp t (window-zero n f m) s)
+
+  same : (t : List Node) (s : State) → each (lookUp t) (pulls (window n f m)) s ≡ pulled t s
+  unfolding each pulls
+  same t s = refl
+
+  pulled-stands : (c : ℕ) (t : List Node) (s : State) → Lists ls os t → P t → StandsFor c t p s → StandsFor c t b (pulled t s)
+  pulled-stands c t s l q x = second .does c t _ l q (first .does c t s l (shown t q) x)
+
+  pulled-new : (c : ℕ) (t : List Node) (s : State) → Lists ls os t → P t → Exact c t p s → New (window n f m) (pulled t s)
+  pulled-new c t s l q x =
+      let u = window-named l (shown t q) in
+      subst (New (window n f m)) (same t s) (still-new t (window n f m) (u .fits) s (not-there x (window n f m) (u .used) z))
+
+  pub window-does : {r : Memory}
+      → DoesFrom ls os (λ t s. WindowOf t n f m × New (window n f m) s) (λ t s. define t (window n f m) s) b r
+      → Does ls os P (λ t s. lookUp t (window n f m) s) p r
+  window-does third = does-open h
+      (λ c t s l q x.
+      let u = window-named l (shown t q) in
+      rw (look-up-new t (window n f m) (u .fits) s (not-there x (window n f m) (u .used) z), same t s)
+      (third .does c t _ l (shown t q, pulled-new c t s l q x) (pulled-stands c t s l q (exact h x))))
+
+  -- What the rest needs.
+  pub rest-shown : Shown ls os P p → ShownFrom ls os (λ t s. WindowOf t n f m × New (window n f m) s) b
+  rest-shown s = record {
+    capacity = s .capacity;
+    table = s .table;
+    state = pulled (s .table) (s .state);
+    lists = s .lists;
+    holds = (
+      shown (s .table) (s .holds),
+      pulled-new (s .capacity) (s .table) (s .state) (s .lists) (s .holds) (exact-of h (s .stands)),
+    );
+    stands = pulled-stands (s .capacity) (s .table) (s .state) (s .lists) (s .holds) (s .stands);
+  }

@@ -9,23 +9,18 @@ use native.Mathlib.Omega.{arith}
 use Rattle.memo.specs.Visit.{each}
 use Rattle.totdb.specs.Nodes.{Node, at, len, lengthOver, limited, plainOr, keyed, sideLen, sideLit}
 use Rattle.totdb.specs.declared.Side.{Side}
-use Rattle.cert.specs.Definitions.{Direction, if, only-if, Key, real, window, stored, lacking, oneDef, realDef, windowDef, longDef, sideDef}
+use Rattle.totdb.proofs.Sides.{plain-zero, plain-keyed}
+use Rattle.cert.specs.Definitions.{Direction, if, only-if, Key, real, window, stored, lacking, realDef, windowDef, sideDef}
 use Rattle.cert.specs.Requests.{keyOf, lacks}
 use Rattle.cert.specs.State.{lookUp}
+use Rattle.cert.proofs.Keyed.{short-side, plain-side, window-side}
+use Rattle.cert.proofs.Lookups.{no-key}
 use Rattle.define.specs.Tables.{Lists, Memory, Shown, Does, RealOf, WindowIn, SideIn}
 use Rattle.define.proofs.Does.{shown-to}
 use Rattle.define.proofs.Slots.{node-short, side-inside}
 use Rattle.define.proofs.Written.{true-false}
 
 -- ---- the key of a definition
-
-one-keys : (o i : ℕ) (d : Direction) → keyOf (oneDef o i d) ≡ []
-unfolding oneDef keyOf
-one-keys o zero if = refl
-one-keys o zero only-if = refl
-one-keys o (suc zero) d = refl
-one-keys o (suc (suc i)) if = refl
-one-keys o (suc (suc i)) only-if = refl
 
 or-keys : {P : Type 0} (c : Dec P) (k : Key) (i : ℕ) → lacks (dite c (λ _. stored k i) (λ _. lacking)) ≡ false
     → keyOf (dite c (λ _. stored k i) (λ _. lacking)) ≡ k ∷ []
@@ -40,80 +35,35 @@ real-keys m n zero only-if h = unfold keyOf in refl
 real-keys m n (suc v) if h = unfold keyOf in refl
 real-keys m n (suc v) only-if h = or-keys (decLe (suc v) m) (real n (suc v)) 1 h
 
-window-keys : (n f m i : ℕ) (d : Direction) → lacks (windowDef n f m i d) ≡ false → keyOf (windowDef n f m i d) ≡ window n f m ∷ []
+window-keys : (n f m v : ℕ) (d : Direction) → lacks (windowDef n f m v d) ≡ false → keyOf (windowDef n f m v d) ≡ window n f m ∷ []
 unfolding windowDef
 window-keys n f m zero if h = unfold lacks in true-false refl h
 window-keys n f m zero only-if h = unfold keyOf in refl
-window-keys n f m (suc i) if h = unfold keyOf in refl
-window-keys n f m (suc i) only-if h = or-keys (decLe (suc i) m) (window n f m) (2 * i + 2) h
+window-keys n f m (suc v) if h = unfold keyOf in refl
+window-keys n f m (suc v) only-if h = or-keys (decLe (suc v) (f + m)) (window n f m) (2 * (v - f) + 2) h
 
--- ---- plain, or a window
-
-pub long-plain : (m n f k i : ℕ) (d : Direction) → plainOr f k true false ≡ true → longDef m n f k i d ≡ realDef m n i d
-unfolding longDef plainOr
-long-plain m n zero zero i d h = refl
-long-plain m n zero (suc k) i d h = true-false h refl
-long-plain m n (suc f) k i d h = true-false h refl
-
-pub long-window : (m n f k i : ℕ) (d : Direction) → plainOr f k true false ≡ false → longDef m n f k i d ≡ windowDef n f m i d
-unfolding longDef plainOr
-long-window m n zero zero i d h = true-false refl h
-long-window m n zero (suc k) i d h = refl
-long-window m n (suc f) k i d h = refl
-
-plain-zero : (f k : ℕ) → plainOr f k true false ≡ true → (f ≡ 0) × (k ≡ 0)
-unfolding plainOr
-plain-zero zero zero h = (refl, refl)
-plain-zero zero (suc k) h = true-false h refl
-plain-zero (suc f) k h = true-false h refl
-
-module _ (s : Side) (plain : plainOr (s .offset) (s .limit) true false ≡ true) where
-  pub plain-keyed : (a : ℕ) → keyed s a ≡ a
-  unfolding keyed
-  plain-keyed zero = refl
-  plain-keyed (suc a) = omega (arith, plain-zero (s .offset) (s .limit) plain .0)
-
-  plain-length : (k : ℕ) → lengthOver s k ≡ k
-  unfolding limited
-  plain-length k =
-      let p = plain-zero (s .offset) (s .limit) plain in
-      let e : k - 0 ≡ k = omega arith in
-      rw (p .0, p .1, e)
+plain-length : (s : Side) → plainOr (s .offset) (s .limit) true false ≡ true → (k : ℕ) → lengthOver s k ≡ k
+unfolding limited
+plain-length s p k =
+    let z = plain-zero (s .offset) (s .limit) p in
+    let e : k - 0 ≡ k = omega arith in
+    rw (z .0, z .1, e)
 
 module _ (t : List Node) (s : Side) (a : ℕ) (d : Direction) where
-  pub short-side : sideLen t s ≤ 1 → sideDef t s a d ≡ oneDef (sideLit t s 1) a d
-  unfolding sideDef
-  short-side h = by (decLe (sideLen t s) 1)
-    where
-      by : (c : Dec (sideLen t s ≤ 1))
-          → dite c (λ _. oneDef (sideLit t s 1) a d) (λ _. longDef (sideLen t s) (s .node) (s .offset) (s .limit) a d) ≡ oneDef (sideLit t s 1) a d
-      by (yes p) = refl
-      by (no p) = absurd (p h)
-
   short-keys : sideLen t s ≤ 1 → keyOf (sideDef t s a d) ≡ []
-  short-keys h = rw (short-side h) (one-keys (sideLit t s 1) a d)
-
-  pub long-side : 1 < sideLen t s → sideDef t s a d ≡ longDef (sideLen t s) (s .node) (s .offset) (s .limit) a d
-  unfolding sideDef
-  long-side h = by (decLe (sideLen t s) 1)
-    where
-      by : (c : Dec (sideLen t s ≤ 1))
-          → dite c (λ _. oneDef (sideLit t s 1) a d) (λ _. longDef (sideLen t s) (s .node) (s .offset) (s .limit) a d)
-          ≡ longDef (sideLen t s) (s .node) (s .offset) (s .limit) a d
-      by (yes p) = absurd (omega arith)
-      by (no p) = refl
+  short-keys h = rw (short-side t s a d h) (no-key (sideLit t s 1) a d)
 
   plain-keys : 1 < sideLen t s → plainOr (s .offset) (s .limit) true false ≡ true → lacks (sideDef t s a d) ≡ false
       → keyOf (sideDef t s a d) ≡ real (s .node) (keyed s a) ∷ []
   plain-keys h p l =
-      let e = long-side h ∙ long-plain (sideLen t s) (s .node) (s .offset) (s .limit) a d p in
+      let e = plain-side t s a d h p in
       rw (e, plain-keyed s p a) (real-keys (sideLen t s) (s .node) a d (rw e at l))
 
   side-keys : 1 < sideLen t s → plainOr (s .offset) (s .limit) true false ≡ false → lacks (sideDef t s a d) ≡ false
       → keyOf (sideDef t s a d) ≡ window (s .node) (s .offset) (sideLen t s) ∷ []
   side-keys h p l =
-      let e = long-side h ∙ long-window (sideLen t s) (s .node) (s .offset) (s .limit) a d p in
-      rw e (window-keys (s .node) (s .offset) (sideLen t s) a d (rw e at l))
+      let e = window-side t s a d h p in
+      rw e (window-keys (s .node) (s .offset) (sideLen t s) (keyed s a) d (rw e at l))
 
 -- ---- the code of a side's lookup
 
@@ -127,16 +77,19 @@ window-in s k a h t i = record {
   node-len = i .node-len;
 }
 
+abbrev SideShown : (ls os : List ℕ) → Side → ℕ → ℕ → Direction → Memory → Type 0
+SideShown ls os s k a d m = Shown ls os (λ t. SideIn t s k a × (lacks (sideDef t s a d) ≡ false)) m
+
 abbrev SideDoes : (ls os : List ℕ) → Side → ℕ → ℕ → Direction → Memory → Memory → Type 0
 SideDoes ls os s k a d m n =
     Does ls os (λ t. SideIn t s k a × (lacks (sideDef t s a d) ≡ false)) (λ t u. each (lookUp t) (keyOf (sideDef t s a d)) u) m n
 
 module _ {ls os : List ℕ} (s : Side) (k a : ℕ) where
-  pub side-bounds : Shown ls os (λ t. SideIn t s k a) → (s .offset ≤ 64) × (a ≤ 65)
-  side-bounds h =
-      let q = side-inside (h .lists) s (h .holds .of) in
+  pub side-bounds : (d : Direction) {m : Memory} → SideShown ls os s k a d m → (s .offset ≤ 64) × (a ≤ 65)
+  side-bounds d h =
+      let q = side-inside (h .lists) s (h .holds .0 .of) in
       let b = node-short (h .lists) (s .node) (q .0) in
-      omega (arith, q .1, b .1, h .holds .value)
+      omega (arith, q .1, b .1, h .holds .0 .value)
 
   plain-in : plainOr (s .offset) (s .limit) true false ≡ true → (t : List Node) → Lists ls os t → SideIn t s k a → RealOf t (s .node) k (keyed s a)
   plain-in p t l i = record {
@@ -145,13 +98,13 @@ module _ {ls os : List ℕ} (s : Side) (k a : ℕ) where
     value = omega (arith, plain-keyed s p a, plain-length s p k, side-length t s (i .node-len), i .value);
   }
 
-  pub plain-shown : plainOr (s .offset) (s .limit) true false ≡ true → Shown ls os (λ t. SideIn t s k a)
-      → Shown ls os (λ t. RealOf t (s .node) k (keyed s a))
-  plain-shown p h = shown-to (plain-in p) h
+  pub plain-shown : (d : Direction) {m : Memory} → plainOr (s .offset) (s .limit) true false ≡ true → SideShown ls os s k a d m
+      → Shown ls os (λ t. RealOf t (s .node) k (keyed s a)) m
+  plain-shown d p h = shown-to (λ t l i. plain-in p t l (i .0)) h
 
-  pub window-shown : 1 < lengthOver s k → Shown ls os (λ t. SideIn t s k a)
-      → Shown ls os (λ t. WindowIn t (s .node) k (s .offset) (lengthOver s k))
-  window-shown g h = shown-to (λ t l i. window-in s k a g t i) h
+  pub window-shown : (d : Direction) {m : Memory} → 1 < lengthOver s k → SideShown ls os s k a d m
+      → Shown ls os (λ t. WindowIn t (s .node) k (s .offset) (lengthOver s k)) m
+  window-shown d g h = shown-to (λ t l i. window-in s k a g t (i .0)) h
 
   pub short-does : (d : Direction) {m : Memory} → lengthOver s k ≤ 1 → SideDoes ls os s k a d m m
   unfolding each

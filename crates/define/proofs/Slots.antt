@@ -7,7 +7,7 @@ use lib.ListN.{length}
 use Rattle.totdb.specs.Nodes.{Node, join, at, len, sideLen}
 use Rattle.totdb.specs.declared.Side.{Side}
 use Rattle.cert.specs.Definitions.{Key, real, window-zero, window}
-use Rattle.cert.proofs.Apart.{Sized, Fit}
+use Rattle.cert.specs.Sized.{Sized, Fit}
 use Rattle.cert.proofs.Fits.{KeyFits}
 use Rattle.define.specs.Tables.{Lists, SideOf, left-of, right-of, RealOf, WindowOf, Used, slot}
 

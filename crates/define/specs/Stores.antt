@@ -6,7 +6,7 @@ use Prim.Native.Nat.{ℕ, zero, suc, _+_, _-_, _*_, _≤_, _<_}
 use lib.Dec.{eqb, ltb}
 use lib.ListN.{length, getD, set}
 use Rattle.record.specs.declared.Cursor.{Cursor}
-use Rattle.totdb.specs.Nodes.{Node}
+use Rattle.totdb.specs.Nodes.{Node, leaves, len, output}
 use Rattle.cert.specs.Definitions.{Key}
 use Rattle.cert.specs.State.{State, keys}
 use Rattle.derivation.specs.Operands.{nextStep}
@@ -25,6 +25,11 @@ pub record Inside (os : List ℕ) (n f m : ℕ) : Type 0 where
   pub values : f + m ≤ 64
   pub several : 1 < m
   pub size : length os ≡ 20416
+
+-- The node x has the leaf list l, and the output o of the value v, if it has one.
+pub record NodeOf (l : List ℕ) (v o : ℕ) (x : Node) : Type 0 where
+  pub leaf-list : leaves x ≡ l
+  pub literal : 1 ≤ v → v ≤ len x → output x v ≡ o
 
 -- ---- stored steps
 
@@ -62,6 +67,14 @@ moved c o = counters c (o .step) (o .stored) (o .clauses)
 pub record New (k : Key) (s : State) : Type 0 where
   pub new : ¬ List·Memᴰ k (keys s)
 
--- `Does` where something is known of the state before.
+-- `Shown` and `Does` where something is known of the state before.
+pub record ShownFrom (ls os : List ℕ) (P : List Node → State → Type 0) (m : Memory) : Type 0 where
+  pub capacity : ℕ
+  pub table : List Node
+  pub state : State
+  pub lists : Lists ls os table
+  pub holds : P table state
+  pub stands : StandsFor capacity table m state
+
 pub record DoesFrom (ls os : List ℕ) (P : List Node → State → Type 0) (f : List Node → State → State) (m n : Memory) : Type 0 where
   pub does : (c : ℕ) (t : List Node) (s : State) → Lists ls os t → P t s → StandsFor c t m s → StandsFor c t n (f t s)

@@ -13,8 +13,8 @@ use Rattle.totdb.specs.declared.Side.{Side}
 use Rattle.cert.specs.Definitions.{Direction, if, only-if, Key, real, window-zero, window}
 use Rattle.cert.specs.Equal.{request-dec}
 use Rattle.cert.specs.Requests.{Request, request}
+use Rattle.cert.specs.Sized.{Sized}
 use Rattle.cert.specs.State.{State, keys, fromIn, storedSteps}
-use Rattle.cert.proofs.Apart.{Sized}
 use Rattle.define.specs.declared.Out.{Out}
 
 -- ---- the lists of the nodes: 319 rows of 64 literals
@@ -116,26 +116,30 @@ pub record Exact (c : ℕ) (t : List Node) (m : Memory) (s : State) : Type 0 whe
   pub few-clauses : length (Rattle.record.specs.Record.clauses (s .log)) ≤ Rattle.record.specs.Record.steps (s .log)
   pub few-stored : length (storedSteps t (s .stored)) ≤ Rattle.record.specs.Record.steps (s .log)
 
--- What was written when the log was full: the records of s as far as they were put, and those that were left.
+-- Where the log was full: it has the numbers of the first records of s, each that found room (after one that found none a shorter one may have),
+-- and zeros after the cursor. How many records these are is left open.
 pub record Over (c : ℕ) (m : Memory) (s : State) : Type 0 where
   pub written : List Record
   pub rest : List Record
   pub split : s .log ≡ written ++ rest
   pub log : buffer (m .log) (m .out .cursor) ≡ puts (filled c []) (flatMap numbers written)
 
--- The memory stands for the state s, as long as all that was written found room. Else the flag is set and the tables are left open:
--- the command is refused as a whole.
+-- The memory stands for the state s, as long as all that was written found room. Else the flag is set, the log is as `Over` says and the tables
+-- are left open: the command is refused as a whole.
 pub data StandsFor (c : ℕ) (t : List Node) (m : Memory) (s : State) : Type 0 where
   exact : m .out .cursor .full ≡ false → Exact c t m s → StandsFor c t m s
   over : m .out .cursor .full ≡ true → Over c m s → StandsFor c t m s
 
 -- ---- contracts
 
--- What a function needs of the nodes: there are some that its lists stand for, and P holds of them.
-pub record Shown (ls os : List ℕ) (P : List Node → Type 0) : Type 0 where
+-- What a function needs: the memory stands for some state, over nodes that its lists stand for and P holds of.
+pub record Shown (ls os : List ℕ) (P : List Node → Type 0) (m : Memory) : Type 0 where
+  pub capacity : ℕ
   pub table : List Node
+  pub state : State
   pub lists : Lists ls os table
   pub holds : P table
+  pub stands : StandsFor capacity table m state
 
 -- What a function does: f to the state, over all nodes that its lists stand for and P holds of.
 pub record Does (ls os : List ℕ) (P : List Node → Type 0) (f : List Node → State → State) (m n : Memory) : Type 0 where

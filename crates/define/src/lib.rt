@@ -10,12 +10,12 @@ ghost use lib.ListN.{length, set};
 ghost use Rattle.memo.specs.Visit.{each};
 ghost use Rattle.record.specs.Record.{numbers, steps};
 ghost use Rattle.record.specs.Writing.{buffer, Puts};
-ghost use Rattle.totdb.specs.Nodes.{Node, leaves, len, output};
+ghost use Rattle.totdb.specs.Nodes.{Node};
 ghost use Rattle.cert.specs.Definitions.{Direction, real, realRecords, window-zero, window, sideDef, windowReals};
 ghost use Rattle.cert.specs.Requests.{keyOf, lacks};
 ghost use Rattle.cert.specs.State.{lookUp, define};
 ghost use Rattle.define.specs.Tables.{memory, Shown, Does, Sizes, RealOf, WindowOf, WindowIn, SideIn};
-ghost use Rattle.define.specs.Stores.{outputIn, Inside, kept, storeStep, storeSteps, moved, New, DoesFrom};
+ghost use Rattle.define.specs.Stores.{outputIn, Inside, NodeOf, kept, storeStep, storeSteps, moved, New, ShownFrom, DoesFrom};
 
 // The place of the next byte, the next step, how many steps of definitions are stored, and how many
 // clauses are written.
@@ -43,7 +43,8 @@ fn output(outputs: &[u32], node: usize, len: usize, value: usize) -> u32
 // The records of the real definition of a value: l is the leaf list, `literal` the output of the value.
 fn put_real(log: &mut [u8], c: Cursor, l: &[u32], value: usize, literal: u32) -> Cursor
     requires { ⌜ (length (now l) ≤ 64) × (value ≤ 65) × (literal ≤ 2 ^ 30) ⌝ }
-    ensures { λ r. ⌜ ((x : Node) → leaves x ≡ now (l .entry) → (1 ≤ value → value ≤ len x → output x value ≡ literal)
+    requires { ⌜ ((x : Node) × NodeOf (now l) value literal x) ⌝ }
+    ensures { λ r. ⌜ ((x : Node) → NodeOf (now (l .entry)) value literal x
         → Puts (buffer (now (log .entry)) c) (flatMap numbers (realRecords x value)) (buffer (now (log .exit)) r)) ⌝ }
 {
     let n = l.len();
@@ -132,7 +133,8 @@ pub fn look_up_real(
     value: usize,
 ) -> Out
     requires { ⌜ Sizes (now firsts) (now steps) ⌝ }
-    requires { ⌜ Shown (now leaves) (now outputs) (λ t. RealOf t node len value) ⌝ }
+    requires { ⌜ ((h : List ℕ) × Shown (now leaves) (now outputs) (λ t. RealOf t node len value)
+        (memory h (now firsts) (now steps) (now log) o)) ⌝ }
     ensures { λ r. ⌜ ((h : List ℕ) → Does (now (leaves .entry)) (now (outputs .entry)) (λ t. RealOf t node len value)
         (λ t s. lookUp t (real node value) s)
         (memory h (now (firsts .entry)) (now (steps .entry)) (now (log .entry)) o)
@@ -170,6 +172,8 @@ fn look_up_zero(
 ) -> Out
     requires { ⌜ Sizes (now firsts) (now steps) ⌝ }
     requires { ⌜ Inside (now outputs) node offset len ⌝ }
+    requires { ⌜ ((h ls : List ℕ) × Shown ls (now outputs) (λ t. WindowOf t node offset len)
+        (memory h (now firsts) (now steps) (now log) o)) ⌝ }
     ensures { λ r. ⌜ ((h ls : List ℕ) → Does ls (now (outputs .entry)) (λ t. WindowOf t node offset len)
         (λ t s. lookUp t (window-zero node offset len) s)
         (memory h (now (firsts .entry)) (now (steps .entry)) (now (log .entry)) o)
@@ -202,7 +206,8 @@ fn look_up_reals(
     len: usize,
 ) -> Out
     requires { ⌜ Sizes (now firsts) (now steps) ⌝ }
-    requires { ⌜ Shown (now leaves) (now outputs) (λ t. WindowIn t node «node_len» offset len) ⌝ }
+    requires { ⌜ ((h : List ℕ) × Shown (now leaves) (now outputs) (λ t. WindowIn t node «node_len» offset len)
+        (memory h (now firsts) (now steps) (now log) o)) ⌝ }
     ensures { λ r. ⌜ ((h : List ℕ) → Does (now (leaves .entry)) (now (outputs .entry)) (λ t. WindowIn t node «node_len» offset len)
         (λ t s. each (lookUp t) (windowReals node offset len) s)
         (memory h (now (firsts .entry)) (now (steps .entry)) (now (log .entry)) o)
@@ -238,6 +243,9 @@ fn define_window(
 ) -> Out
     requires { ⌜ Sizes (now firsts) (now steps) ⌝ }
     requires { ⌜ Inside (now outputs) node offset len ⌝ }
+    requires { ⌜ ((h ls : List ℕ) × ShownFrom ls (now outputs)
+        (λ t s. WindowOf t node offset len × New (window node offset len) s)
+        (memory h (now firsts) (now steps) (now log) o)) ⌝ }
     ensures { λ r. ⌜ ((h ls : List ℕ) → DoesFrom ls (now (outputs .entry))
         (λ t s. WindowOf t node offset len × New (window node offset len) s)
         (λ t s. define t (window node offset len) s)
@@ -274,7 +282,8 @@ fn look_up_window(
     len: usize,
 ) -> Out
     requires { ⌜ Sizes (now firsts) (now steps) ⌝ }
-    requires { ⌜ Shown (now leaves) (now outputs) (λ t. WindowIn t node «node_len» offset len) ⌝ }
+    requires { ⌜ ((h : List ℕ) × Shown (now leaves) (now outputs) (λ t. WindowIn t node «node_len» offset len)
+        (memory h (now firsts) (now steps) (now log) o)) ⌝ }
     ensures { λ r. ⌜ ((h : List ℕ) → Does (now (leaves .entry)) (now (outputs .entry)) (λ t. WindowIn t node «node_len» offset len)
         (λ t s. lookUp t (window node offset len) s)
         (memory h (now (firsts .entry)) (now (steps .entry)) (now (log .entry)) o)
@@ -316,7 +325,9 @@ pub fn look_up_side(
     a: usize,
 ) -> Out
     requires { ⌜ Sizes (now firsts) (now steps) ⌝ }
-    requires { ⌜ Shown (now leaves) (now outputs) (λ t. SideIn t s «node_len» a) ⌝ }
+    requires { ⌜ ((h : List ℕ) × (d : Direction) × Shown (now leaves) (now outputs)
+        (λ t. SideIn t s «node_len» a × (lacks (sideDef t s a d) ≡ false))
+        (memory h (now firsts) (now steps) (now log) o)) ⌝ }
     ensures { λ r. ⌜ ((h : List ℕ) (d : Direction) → Does (now (leaves .entry)) (now (outputs .entry))
         (λ t. SideIn t s «node_len» a × (lacks (sideDef t s a d) ≡ false))
         (λ t u. each (lookUp t) (keyOf (sideDef t s a d)) u)

@@ -9,7 +9,7 @@ use lib.ListN.{length, set, take, length-set}
 use lib.Seq.{paste, take-set-le, take-all, length-paste}
 use Rattle.totdb.specs.Nodes.{Node, leaf, join, at, len, leaves, output, outputs, range, taken}
 use Rattle.totdb.specs.declared.Side.{Side}
-use Rattle.cert.proofs.Apart.{Fit}
+use Rattle.cert.specs.Sized.{Fit}
 use Rattle.cert.proofs.Tables.{at-snoc, length-snoc, sized-snoc}
 use Rattle.define.specs.Tables.{Row, Lists}
 use Rattle.nodes.specs.Copied.{literalsFrom}

@@ -6,9 +6,9 @@ use Prim.Native.Nat.{ℕ, zero, suc, _+_, _*_, _≤_, _<_}
 use native.Mathlib.Numerals.{add-one}
 use native.Mathlib.Nat.{le-antisymm}
 use native.Mathlib.Omega.{arith}
-use lib.ListN.{length, getD, set, take, drop, length-take, length-drop, length-map}
+use lib.ListN.{length, getD, set, length-take, length-drop, length-map}
 use lib.Seq.{paste, paste-suc}
-use Rattle.totdb.specs.Nodes.{lengthOver, plainOr, range}
+use Rattle.totdb.specs.Nodes.{part, lengthOver, plainOr, range}
 use Rattle.totdb.specs.declared.Side.{Side}
 use Rattle.cert.proofs.Apart.{length-range}
 use Rattle.define.proofs.Rows.{getD-range}
@@ -41,19 +41,18 @@ plain-cond zero zero ls os = refl
 plain-cond zero (suc k) ls os = refl
 plain-cond (suc f) k ls os = refl
 
-length-plainOr : (f k n : ℕ) (ls os : List ℕ) → length ls ≡ n → length os ≡ n → length (plainOr f k ls os) ≡ n
-unfolding plainOr
-length-plainOr zero zero n ls os p q = p
-length-plainOr zero (suc k) n ls os p q = q
-length-plainOr (suc f) k n ls os p q = q
+pub length-cond : (b : Bool) (n : ℕ) (ls os : List ℕ) → length ls ≡ n → length os ≡ n → length (cond b ls os) ≡ n
+length-cond true n ls os p q = p
+length-cond false n ls os p q = q
 
 pub length-in : (ls os : List ℕ) (s : Side) (k : ℕ) → length ls ≡ 20416 → length os ≡ 20416 → s .node < 319 → s .offset + lengthOver s k ≤ 64
     → length (literalsIn ls os s k) ≡ lengthOver s k
-unfolding literalsIn
+unfolding literalsIn part
 length-in ls os s k p q h g =
-    simp (length-take, length-drop) (omega (arith, length-plainOr (s .offset) (s .limit) 20416 ls os p q))
+    simp (length-take, length-drop, ← plain-cond (s .offset) (s .limit) ls os)
+    (omega (arith, length-cond (plainOr (s .offset) (s .limit) true false) 20416 ls os p q))
 
 pub part-is : (ls os : List ℕ) (s : Side) (k n : ℕ) (b : Bool) (l : List ℕ) → n ≡ lengthOver s k → b ≡ plainOr (s .offset) (s .limit) true false
-    → l ≡ take n (drop (64 * s .node + s .offset) (cond b ls os)) → l ≡ literalsIn ls os s k
+    → l ≡ part (cond b ls os) (64 * s .node + s .offset) n → l ≡ literalsIn ls os s k
 unfolding literalsIn
 part-is ls os s k n b l p q e = e ∙ rw (p, q, plain-cond (s .offset) (s .limit) ls os)

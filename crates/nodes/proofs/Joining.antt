@@ -7,7 +7,7 @@ use lib.ListN.{length, getD, take, drop, length-append}
 use lib.Seq.{paste, take-paste, take-all, sets}
 use Rattle.totdb.specs.Nodes.{Node, join, at, len, leaves, outputs, limited, lengthOver, plainOr, sideLen, sideLeaves, sideOutputs, joined}
 use Rattle.totdb.specs.declared.Side.{Side}
-use Rattle.cert.proofs.Apart.{Fit}
+use Rattle.cert.specs.Sized.{Fit}
 use Rattle.cert.proofs.Tables.{side-some}
 use Rattle.define.specs.Tables.{Row, Lists}
 use Rattle.define.proofs.Rows.{part-at}

@@ -2,14 +2,14 @@
 use mathlib.Core.Path.{_≡_}
 use mathlib.Core.List.{List, [], _∷_, _++_, map}
 use Prim.Native.Nat.{ℕ, _+_, _*_, _≤_, _<_}
-use lib.ListN.{length, take, drop}
-use Rattle.totdb.specs.Nodes.{lengthOver, plainOr, range}
+use lib.ListN.{length}
+use Rattle.totdb.specs.Nodes.{part, lengthOver, plainOr, range}
 use Rattle.totdb.specs.declared.Side.{Side}
 
 -- The literals of a side over a node of k values.
 unfoldable pub literalsIn : List ℕ → List ℕ → Side → ℕ → List ℕ
-unfolding plainOr
-literalsIn ls os s k = take (lengthOver s k) (drop (64 * s .node + s .offset) (plainOr (s .offset) (s .limit) ls os))
+unfolding plainOr part
+literalsIn ls os s k = part (plainOr (s .offset) (s .limit) ls os) (64 * s .node + s .offset) (lengthOver s k)
 
 -- The literals of the n variables from v up.
 unfoldable pub literalsFrom : ℕ → ℕ → List ℕ

@@ -14,6 +14,7 @@ ghost use Rattle.nodes.specs.Copied.{literalsIn, literalsFrom, sideRow, 
 // A leaf of the table has the literal.
 pub fn known(nodes: &[u32], leaves: &[u32], count: usize, literal: u32) -> bool
     requires { ⌜ (length (now nodes) ≡ 2552) × (length (now leaves) ≡ 20416) × (count ≤ 319) ⌝ }
+    requires { ⌜ ((os : List ℕ) × (t : List Node) × Rows (now nodes) t × Lists (now leaves) os t × (length t ≡ count)) ⌝ }
     ensures { λ r. ⌜ ((os : List ℕ) (t : List Node) → Rows (now (nodes .entry)) t → Lists (now (leaves .entry)) os t → length t ≡ count
         → r ≡ Rattle.totdb.specs.Nodes.known t literal) ⌝ }
 {
@@ -28,6 +29,7 @@ pub fn known(nodes: &[u32], leaves: &[u32], count: usize, literal: u32) -> bool
 // A node stands under a join of the table.
 pub fn taken(nodes: &[u32], count: usize, node: usize) -> bool
     requires { ⌜ (length (now nodes) ≡ 2552) × (count ≤ 319) ⌝ }
+    requires { ⌜ ((t : List Node) × Rows (now nodes) t × (length t ≡ count)) ⌝ }
     ensures { λ r. ⌜ ((t : List Node) → Rows (now (nodes .entry)) t → length t ≡ count → r ≡ Rattle.totdb.specs.Nodes.taken t node) ⌝ }
 {
     for n in 0..count {
@@ -43,6 +45,7 @@ pub fn taken(nodes: &[u32], count: usize, node: usize) -> bool
 // A leaf, as node n.
 pub fn add_leaf(nodes: &mut [u32], leaves: &mut [u32], outputs: &mut [u32], n: usize, literal: u32)
     requires { ⌜ Sizes (now nodes) (now leaves) (now outputs) × (n < 319) ⌝ }
+    requires { ⌜ ((t : List Node) × Rows (now nodes) t × Lists (now leaves) (now outputs) t × (length t ≡ n) × (literal ≤ 2 ^ 30)) ⌝ }
     ensures { λ _. ⌜ ((t : List Node) → Rows (now (nodes .entry)) t → Lists (now (leaves .entry)) (now (outputs .entry)) t → length t ≡ n → literal ≤ 2 ^ 30
         → Rows (now (nodes .exit)) (t ++ (leaf literal ∷ [])) × Lists (now (leaves .exit)) (now (outputs .exit)) (t ++ (leaf literal ∷ []))) ⌝ }
 {

@@ -9,9 +9,9 @@ use Rattle.memo.proofs.Unrolled.{ask-there, ask-new}
 use Rattle.totdb.specs.Nodes.{Node, leaf, at}
 use Rattle.cert.specs.Definitions.{Direction, if, only-if}
 use Rattle.cert.specs.Equal.{request-dec}
-use Rattle.cert.specs.Requests.{Request, request, needs, needsAt, clausesOf, clausesAt}
+use Rattle.cert.specs.Requests.{Request, request, needs, needsAt, clausesOf, clausesAt, Right}
+use Rattle.cert.specs.Sized.{Sized}
 use Rattle.cert.specs.State.{State, hold, writeRequest, serve}
-use Rattle.cert.proofs.Apart.{Right, Sized}
 use Rattle.cert.proofs.Fits.{request-falls}
 use Rattle.request.specs.Rows.{askFor}
 use Rattle.request.proofs.Grow.{ask-holds}

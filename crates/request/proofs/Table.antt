@@ -7,8 +7,8 @@ use lib.ListN.{length, getD}
 use Rattle.totdb.specs.Nodes.{Node, leaf, join, at, len, leaves, sideLen, lengthOver}
 use Rattle.totdb.specs.declared.Side.{Side}
 use Rattle.cert.specs.Definitions.{Direction}
-use Rattle.cert.specs.Requests.{request, needs, needsAt, below, named}
-use Rattle.cert.proofs.Apart.{Fit, Sized, Right}
+use Rattle.cert.specs.Requests.{request, needs, needsAt, below, named, Right}
+use Rattle.cert.specs.Sized.{Fit, Sized}
 use Rattle.define.specs.Tables.{Lists, SideOf, left-of, right-of}
 use Rattle.define.proofs.Slots.{side-inside, node-short}
 use Rattle.clauses.specs.Joins.{JoinOf, JoinIn}

@@ -101,7 +101,8 @@ fn write_request(
     only_if: bool,
 ) -> Out
     requires { ⌜ Tables (now held) (now firsts) (now steps) ⌝ }
-    requires { ⌜ Shown (now leaves) (now outputs) (λ t. JoinIn t x value) ⌝ }
+    requires { ⌜ Shown (now leaves) (now outputs) (λ t. JoinIn t x value)
+        (memory (now held) (now firsts) (now steps) (now log) o) ⌝ }
     ensures { λ r. ⌜ Does (now (leaves .entry)) (now (outputs .entry)) (λ t. JoinIn t x value)
         (λ t s. writeRequest t (request (x .node) value (direction «only_if»)) s)
         (memory (now (held .entry)) (now (firsts .entry)) (now (steps .entry)) (now (log .entry)) o)
@@ -127,7 +128,8 @@ fn node_request(
     only_if: bool,
 ) -> Out
     requires { ⌜ Tables (now held) (now firsts) (now steps) ⌝ }
-    requires { ⌜ Shown (now leaves) (now outputs) (λ t. RequestIn (now nodes) t node value) ⌝ }
+    requires { ⌜ Shown (now leaves) (now outputs) (λ t. RequestIn (now nodes) t node value)
+        (memory (now held) (now firsts) (now steps) (now log) o) ⌝ }
     ensures { λ r. ⌜ Does (now (leaves .entry)) (now (outputs .entry)) (λ t. RequestIn (now (nodes .entry)) t node value)
         (λ t s. askFor t (request node value (direction «only_if»)) s)
         (memory (now (held .entry)) (now (firsts .entry)) (now (steps .entry)) (now (log .entry)) o)
@@ -211,7 +213,8 @@ fn side_request(
     only_if: bool,
 ) -> Out
     requires { ⌜ Tables (now held) (now firsts) (now steps) ⌝ }
-    requires { ⌜ Shown (now leaves) (now outputs) (λ t. SideAsked (now nodes) t side p q value) ⌝ }
+    requires { ⌜ Shown (now leaves) (now outputs) (λ t. SideAsked (now nodes) t side p q value)
+        (memory (now held) (now firsts) (now steps) (now log) o) ⌝ }
     ensures { λ r. ⌜ Does (now (leaves .entry)) (now (outputs .entry)) (λ t. SideAsked (now (nodes .entry)) t side p q value)
         (λ t s. each (askFor t) (below (direction «only_if») side (named (direction «only_if») value p q)) s)
         (memory (now (held .entry)) (now (firsts .entry)) (now (steps .entry)) (now (log .entry)) o)
@@ -258,7 +261,8 @@ fn serve_needs(
     only_if: bool,
 ) -> Out
     requires { ⌜ Tables (now held) (now firsts) (now steps) ⌝ }
-    requires { ⌜ Shown (now leaves) (now outputs) (λ t. JoinAsked (now nodes) t x value) ⌝ }
+    requires { ⌜ Shown (now leaves) (now outputs) (λ t. JoinAsked (now nodes) t x value)
+        (memory (now held) (now firsts) (now steps) (now log) o) ⌝ }
     ensures { λ r. ⌜ Does (now (leaves .entry)) (now (outputs .entry)) (λ t. JoinAsked (now (nodes .entry)) t x value)
         (λ t s. each (askFor t) (needs t (request (x .node) value (direction «only_if»))) s)
         (memory (now (held .entry)) (now (firsts .entry)) (now (steps .entry)) (now (log .entry)) o)
@@ -314,7 +318,8 @@ fn both(
     value: usize,
 ) -> Out
     requires { ⌜ Tables (now held) (now firsts) (now steps) ⌝ }
-    requires { ⌜ Shown (now leaves) (now outputs) (λ t. JoinAsked (now nodes) t x value) ⌝ }
+    requires { ⌜ Shown (now leaves) (now outputs) (λ t. JoinAsked (now nodes) t x value)
+        (memory (now held) (now firsts) (now steps) (now log) o) ⌝ }
     ensures { λ r. ⌜ Does (now (leaves .entry)) (now (outputs .entry)) (λ t. JoinAsked (now (nodes .entry)) t x value)
         (λ t s. writeBoth t (x .node) value s)
         (memory (now (held .entry)) (now (firsts .entry)) (now (steps .entry)) (now (log .entry)) o)
@@ -375,7 +380,8 @@ fn each_direction(
     value: usize,
 ) -> Out
     requires { ⌜ Tables (now held) (now firsts) (now steps) ⌝ }
-    requires { ⌜ Shown (now leaves) (now outputs) (λ t. RequestIn (now nodes) t node value) ⌝ }
+    requires { ⌜ Shown (now leaves) (now outputs) (λ t. RequestIn (now nodes) t node value)
+        (memory (now held) (now firsts) (now steps) (now log) o) ⌝ }
     ensures { λ r. ⌜ Does (now (leaves .entry)) (now (outputs .entry)) (λ t. RequestIn (now (nodes .entry)) t node value)
         (λ t s. askBoth t node value s)
         (memory (now (held .entry)) (now (firsts .entry)) (now (steps .entry)) (now (log .entry)) o)
@@ -439,7 +445,8 @@ pub fn request(
     direction: u32,
 ) -> Out
     requires { ⌜ Tables (now held) (now firsts) (now steps) ⌝ }
-    requires { ⌜ Shown (now leaves) (now outputs) (λ t. RequestIn (now nodes) t node value) ⌝ }
+    requires { ⌜ Shown (now leaves) (now outputs) (λ t. RequestIn (now nodes) t node value)
+        (memory (now held) (now firsts) (now steps) (now log) o) ⌝ }
     requires { ⌜ (1 ≤ direction) × (direction ≤ 3) ⌝ }
     ensures { λ r. ⌜ Does (now (leaves .entry)) (now (outputs .entry)) (λ t. RequestIn (now (nodes .entry)) t node value)
         (λ t s. serve t (requests node value direction) s)

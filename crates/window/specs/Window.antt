@@ -17,27 +17,22 @@ pub record Handed (firsts outputs : List ℕ) (at-step : Key → ℕ → ℕ) (n
   pub only-if-step : (s : ℕ) → f < s → s ≤ f + m → at-step (real n s) 1 ≡ nextStep (getD firsts (68 * n + s) 0)
   pub literal : (s : ℕ) → f < s → s ≤ f + m → output x s ≡ getD outputs (s - 1) 0
 
--- A window inside the tables: 319 nodes, 68 values to a node, the outputs of its node. It has two outputs or more.
+-- A window inside the tables: 319 nodes, 68 values to a node, the outputs of its node. It has two outputs or more, and there are steps and a node
+-- that it is handed for.
 pub record Bounds (firsts outputs : List ℕ) (node offset len : ℕ) : Type 0 where
   pub nodes : node < 319
   pub size : length firsts ≡ 21692
   pub values : offset + len ≤ 64
   pub several : 1 < len
   pub inside : offset + len ≤ length outputs
+  pub at-step : Key → ℕ → ℕ
+  pub of : Node
+  pub handed : Handed firsts outputs at-step node of offset len
 
 -- A value of a window.
 pub record Within (offset len value : ℕ) : Type 0 where
   pub above : offset < value
   pub below : value ≤ offset + len
-
--- What a summand reads: the steps of the values v and s of a node, and the output of s.
-pub record Reads (firsts outputs : List ℕ) (node v s : ℕ) : Type 0 where
-  pub nodes : node < 319
-  pub size : length firsts ≡ 21692
-  pub value : v ≤ 64
-  pub low : 0 < s
-  pub high : s ≤ 64
-  pub inside : s ≤ length outputs
 
 -- The summand at s of the only-if of v, or of its if.
 unfoldable pub summand : Bool → (Key → ℕ → ℕ) → ℕ → Node → ℕ → ℕ → List Token

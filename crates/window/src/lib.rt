@@ -8,7 +8,7 @@ ghost use Rattle.record.specs.Record.{derivation, numbers, tokenNumbers};
 ghost use Rattle.record.specs.Writing.{buffer, Puts};
 ghost use Rattle.totdb.specs.Nodes.{Node, at, range};
 ghost use Rattle.cert.specs.Definitions.{Key, keyRecords, window, windowIf, windowOnlyIf, windowPair};
-ghost use Rattle.window.specs.Window.{added, Bounds, firstOther, Handed, Reads, summand, tokensOf, Within};
+ghost use Rattle.window.specs.Window.{added, Bounds, firstOther, Handed, summand, tokensOf, Within};
 
 // The first value of a window that is not `value`: the first summand that is not empty.
 fn first_other(offset: usize, value: usize) -> usize
@@ -46,7 +46,7 @@ fn put_summand(
     s: usize,
     only_if: bool,
 ) -> Cursor
-    requires { ⌜ Reads (now firsts) (now outputs) node value s ⌝ }
+    requires { ⌜ ((f m : ℕ) × Bounds (now firsts) (now outputs) node f m × Within f m value × Within f m s) ⌝ }
     ensures { λ r. ⌜ ((at-step : Key → ℕ → ℕ) (x : Node) (f m : ℕ)
         → Handed (now (firsts .entry)) (now (outputs .entry)) at-step node x f m → Within f m value → Within f m s
         → Puts (buffer (now (log .entry)) c) (tokenNumbers (summand «only_if» at-step node x value s)) (buffer (now (log .exit)) r)) ⌝ }
@@ -73,7 +73,7 @@ fn put_added(
     s: usize,
     only_if: bool,
 ) -> Cursor
-    requires { ⌜ Reads (now firsts) (now outputs) node value s ⌝ }
+    requires { ⌜ ((f m : ℕ) × Bounds (now firsts) (now outputs) node f m × Within f m value × Within f m s) ⌝ }
     ensures { λ r. ⌜ ((at-step : Key → ℕ → ℕ) (x : Node) (f m : ℕ)
         → Handed (now (firsts .entry)) (now (outputs .entry)) at-step node x f m → Within f m value → Within f m s
         → Puts (buffer (now (log .entry)) c) (tokenNumbers (added (summand «only_if» at-step node x value) s)) (buffer (now (log .exit)) r)) ⌝ }

@@ -10,7 +10,7 @@ use Rattle.clauses.proofs.look_up.Tie as tie
 is-stored-requires : tie.Need-is-stored-requires
 is-stored-requires c κs =
     let p = c .before .before .before .before .before .before .pre in
-    (p .0 .firsts-size, (_, p .1 .0, clause-reach (p .1 .1 .holds) (p .1 .1 .lists)))
+    (p .0 .firsts-size, (_, p .1 .1, clause-reach (p .1 .2 .holds) (p .1 .2 .lists)))
 
 same-length : tie.Need-same-length
 same-length c = search needs

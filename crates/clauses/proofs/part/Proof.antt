@@ -24,11 +24,11 @@ returns c = λ ls t l i. rw (c .before .before .if1 .taken) (only-absent l i (om
 literal-requires : tie.Need-literal-requires
 literal-requires c κs =
     let start = c .before .before .before .before .before .before in
-    (start .pre .0 .first, start .pre .0 .offset, start .pre .1 .above (c .before .before .if1 .taken), omega (arith, start .pre .0))
+    (start .pre .0 .first, start .pre .0 .offset, start .pre .1 .0 .above (c .before .before .if1 .taken), omega (arith, start .pre .0))
 
 returns-2 : tie.Need-returns-2
 unfolding Rattle.derivation.specs.Operands.part
-returns-2 c = λ ls t l i. rw (c .before .before .before .if1 .taken, c .literal .ensures) (only-literal l i (c .before .before .before .before .before .before .before .pre .1 .above (c .before .before .before .if1 .taken)) (omega arith))
+returns-2 c = λ ls t l i. rw (c .before .before .before .if1 .taken, c .literal .ensures) (only-literal l i (c .before .before .before .before .before .before .before .pre .1 .0 .above (c .before .before .before .if1 .taken)) (omega arith))
 
 returns-3 : tie.Need-returns-3
 unfolding Rattle.derivation.specs.Operands.part
@@ -37,14 +37,14 @@ returns-3 c = λ ls t l i. rw (c .before .if1 .left) (if-absent l i (omega arith
 literal-requires-2 : tie.Need-literal-requires-2
 literal-requires-2 c κs =
     let start = c .before .before .before .before .before in
-    (start .pre .0 .first, start .pre .0 .offset, omega arith, omega (arith, start .pre .0, start .pre .1 .below (c .before .if1 .left)))
+    (start .pre .0 .first, start .pre .0 .offset, omega arith, omega (arith, start .pre .0, start .pre .1 .0 .below (c .before .if1 .left)))
 
 neg-requires : tie.Need-neg-requires
 neg-requires c κs = search needs
 
 returns-4 : tie.Need-returns-4
 unfolding Rattle.derivation.specs.Operands.part
-returns-4 c = λ ls t l i. rw (c .before .before .before .if1 .left, c .neg .ensures, c .before .literal2 .ensures) (if-literal l i (omega arith) (c .before .before .before .before .before .before .before .pre .1 .below (c .before .before .before .if1 .left)))
+returns-4 c = λ ls t l i. rw (c .before .before .before .if1 .left, c .neg .ensures, c .before .literal2 .ensures) (if-literal l i (omega arith) (c .before .before .before .before .before .before .before .pre .1 .0 .below (c .before .before .before .if1 .left)))
 
 pub part-spec : {M : Type 1} → statement M
 part-spec =

@@ -1,5 +1,6 @@
 -- `clauses::write_clause` meets its contract: the lookups, then the clause.
 use mathlib.Core.Path.{_∙_}
+use Rattle.define.proofs.Does.{shown-after}
 use Rattle.clauses.proofs.Joins.{clause-reach}
 use Rattle.clauses.proofs.Written.{does-clause}
 use Rattle.clauses.proofs.write_clause.Statement.{statement}
@@ -8,13 +9,20 @@ use Rattle.clauses.proofs.write_clause.Tie as tie
 look-up-requires : tie.Need-look-up-requires
 look-up-requires c κs =
     let start = c .before .before .before .before .before .before .before .before in
-    (start .pre .0, (start .args .only-if, start .pre .1))
+    (start .pre .0, (start .pre .1 .0, start .args .only-if, start .pre .1 .1))
 
 put-clause-requires : tie.Need-put-clause-requires
 put-clause-requires c κs =
     let look = c .before .before .before .before .before .before .before .before in
-    let p = look .before .before .before .before .before .before .before .before .before .pre in
-    (look .look-up .kept .1 .0 ∙ p .0 .firsts-size, clause-reach (p .1 .holds) (p .1 .lists))
+    let start = look .before .before .before .before .before .before .before .before .before in
+    let p = start .pre in
+    let s = p .1 .1 in (
+      look .look-up .kept .1 .0 ∙ p .0 .firsts-size,
+      (
+        clause-reach (s .holds) (s .lists),
+        (_, p .1 .0, _, shown-after (λ t l k. k) (look .look-up .ensures (p .1 .0) (start .args .only-if)) s),
+      ),
+    )
 
 same-length : tie.Need-same-length
 same-length c =

@@ -7,7 +7,7 @@ use native.Mathlib.Omega.{arith}
 use lib.ListN.{length}
 use Rattle.define.specs.Tables.{memory, Does}
 use Rattle.clauses.specs.Joins.{JoinIn}
-use Rattle.define.proofs.Does.{shown-to}
+use Rattle.define.proofs.Does.{shown-to, shown-after}
 use Rattle.clauses.proofs.Standing.{sizes-kept}
 use Rattle.clauses.proofs.Splits.{Between, between, split-in, splitsTo, none-yet, one-more, all-done}
 use Rattle.clauses.proofs.write_clauses.Statement.{statement}
@@ -29,7 +29,7 @@ len-requires-2 : tie.Need-len-requires-2 Inv-loop μ-loop
 len-requires-2 c κs = search needs
 
 split-sum-requires : tie.Need-split-sum-requires Inv-loop μ-loop
-split-sum-requires c κs = c .before .before .before .before .before .before .before .before .before .pre .1 .holds .above
+split-sum-requires c κs = c .before .before .before .before .before .before .before .before .before .pre .1 .1 .holds .above
 
 least-requires : tie.Need-least-requires Inv-loop μ-loop
 least-requires c κs = search needs
@@ -43,7 +43,7 @@ add-a-end c =
     let sides = sums .before .before in
     let start = sides .before .before .before .before .before .before .before .before in
     let w =
-    between (start .pre .1) (sides .len .ensures) (sums .before .len2 .ensures) (sums .split-sum .ensures) (c .before .least .ensures)
+    between (start .pre .1 .1) (sides .len .ensures) (sums .before .len2 .ensures) (sums .split-sum .ensures) (c .before .least .ensures)
     (c .greatest .ensures) in
     search (needs, w .short)
 
@@ -53,7 +53,7 @@ loop-holds c =
     let sides = sums .before .before in
     let start = sides .before .before .before .before .before .before .before .before in
     let w =
-    between (start .pre .1) (sides .len .ensures) (sums .before .len2 .ensures) (sums .split-sum .ensures) (c .before .least .ensures)
+    between (start .pre .1 .1) (sides .len .ensures) (sums .before .len2 .ensures) (sums .split-sum .ensures) (c .before .least .ensures)
     (c .greatest .ensures) in
     (w, refl, omega arith, omega (arith, w .some), refl, refl, refl, λ h. none-yet _ _)
 
@@ -74,7 +74,11 @@ write-clause-requires c κs =
     let inv = loop .inv in
     let start = value .before .before .before .before .before .before .before .before .before .before .before .before .before .before .before in (
       sizes-kept (start .pre .0) (inv .5) (inv .6),
-      shown-to (λ t l i. split-in (inv .0) (loop .a) (inv .2) (omega arith) (value .left-value .ensures) t i) (start .pre .1),
+      (
+        start .pre .1 .0,
+        shown-to (λ t l i. split-in (inv .0) (loop .a) (inv .2) (omega arith) (value .left-value .ensures) t i)
+            (shown-after (λ t l i. i) (inv .7 (start .pre .1 .0)) (start .pre .1 .1)),
+      ),
     )
 
 add-a : tie.Need-add-a Inv-loop μ-loop

@@ -10,7 +10,7 @@ leaf-requires : tie.Need-leaf-requires
 leaf-requires c κs =
     let start = c .before .before .before .before .before .before .before .before .before .before .before .before .before in
     let a = start .args in
-    record { held = a .held .now; firsts = a .firsts .now; steps = a .steps .now; log = a .log .now; ready = start .pre }
+    (record { held = a .held .now; firsts = a .firsts .now; steps = a .steps .now; log = a .log .now; ready = start .pre .0 }, start .pre .1)
 
 enum-known-k-2 : tie.Need-enum-known-k-2
 enum-known-k-2 c = search needs
@@ -19,7 +19,7 @@ join-requires : tie.Need-join-requires
 join-requires c κs =
     let start = c .before .before .before .before .before .before .before .before .before .before .before .before .before in
     let a = start .args in
-    record { held = a .held .now; firsts = a .firsts .now; steps = a .steps .now; log = a .log .now; ready = start .pre }
+    record { held = a .held .now; firsts = a .firsts .now; steps = a .steps .now; log = a .log .now; ready = start .pre .0 }
 
 enum-known-k-3 : tie.Need-enum-known-k-3
 enum-known-k-3 c = search needs
@@ -34,7 +34,7 @@ close-requires : tie.Need-close-requires
 close-requires c κs =
     let start = c .before .before .before .before .before .before .before .before .before .before .before in
     let a = start .args in
-    (a .nodes .now, a .leaves .now, a .outputs .now, a .held .now, a .firsts .now, start .pre)
+    (a .nodes .now, a .leaves .now, a .outputs .now, a .held .now, a .firsts .now, start .pre .0)
 
 same-length : tie.Need-same-length
 same-length c = search needs

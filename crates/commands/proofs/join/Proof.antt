@@ -10,7 +10,10 @@ use Rattle.commands.proofs.join.Statement.{statement}
 use Rattle.commands.proofs.join.Tie as tie
 
 ask-join-requires : tie.Need-ask-join-requires
-ask-join-requires c κs = search needs
+ask-join-requires c κs =
+    let r = c .before .before .before .before .pre .ready in
+    let st = r .standing in
+    ((st .rows .size, omega (arith, st .nodes, st .lists .few)), (r .state .nodes, st .rows, sym (st .nodes)))
 
 same-length : tie.Need-same-length
 same-length c = search needs

@@ -21,7 +21,13 @@ returns c =
     refused-early st (Command.Leaf (a .literal)) 6 (omega arith) (leaf-6 h (s .nodes) (a .literal) (unfold variable in omega arith)) _ refl refl
 
 known-requires : tie.Need-known-requires
-known-requires c κs = search needs
+known-requires c κs =
+    let start = c .before .before .before .before .before .before in
+    let r = start .pre .0 .ready in
+    let st = r .standing in (
+      (st .rows .size, st .lists .leaves-size, omega (arith, st .nodes, st .lists .few)),
+      (start .args .outputs .now, r .state .nodes, st .rows, st .lists, sym (st .nodes)),
+    )
 
 same-length : tie.Need-same-length
 same-length c = search needs
@@ -40,7 +46,13 @@ neg-requires : tie.Need-neg-requires
 neg-requires c κs = search needs
 
 known-requires-2 : tie.Need-known-requires-2
-known-requires-2 c κs = search needs
+known-requires-2 c κs =
+    let start = c .before .before .before .before .before .before .before .before .before .before .before in
+    let r = start .pre .0 .ready in
+    let st = r .standing in (
+      (st .rows .size, st .lists .leaves-size, omega (arith, st .nodes, st .lists .few)),
+      (start .args .outputs .now, r .state .nodes, st .rows, st .lists, sym (st .nodes)),
+    )
 
 same-length-3 : tie.Need-same-length-3
 same-length-3 c = search needs
@@ -81,11 +93,24 @@ returns-4 c =
     refl
 
 add-leaf-requires : tie.Need-add-leaf-requires
-add-leaf-requires c κs = search needs
+add-leaf-requires c κs =
+    let if2-at = c .before .before .before .before .before .before .before .before .before .before in
+    let if1-at = if2-at .before .before .before .before in
+    let start = if1-at .before .before .before .before in
+    let r = start .pre .0 .ready in
+    let st = r .standing in
+    let low = head-low (r .head) (st .formed .head) .0 in
+    let small : start .args .literal ≤ 2 ^ 30 = omega (arith, low, start .pre .1, if1-at .if1 .left) in (
+      (
+        record { nodes-size = st .rows .size; leaves-size = st .lists .leaves-size; outputs-size = st .lists .outputs-size },
+        omega (arith, few-nodes (st .formed .treed), st .nodes),
+      ),
+      (r .state .nodes, st .rows, st .lists, sym (st .nodes), small),
+    )
 
 add-t29 : tie.Need-add-t29
 add-t29 c =
-    let st = c .before .before .before .before .before .before .before .before .before .before .before .before .before .before .before .before .before .before .before .before .before .before .before .before .before .before .pre .ready .standing in
+    let st = c .before .before .before .before .before .before .before .before .before .before .before .before .before .before .before .before .before .before .before .before .before .before .before .before .before .before .pre .0 .ready .standing in
     omega (arith, few-nodes (st .formed .treed), st .nodes)
 
 add-t30 : tie.Need-add-t30

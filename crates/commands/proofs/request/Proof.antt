@@ -9,7 +9,10 @@ use Rattle.commands.proofs.request.Statement.{statement}
 use Rattle.commands.proofs.request.Tie as tie
 
 ask-request-requires : tie.Need-ask-request-requires
-ask-request-requires c κs = search needs
+ask-request-requires c κs =
+    let r = c .before .before .before .before .before .before .before .pre in
+    let st = r .standing in
+    ((st .rows .size, omega (arith, st .nodes, st .lists .few)), (r .state .nodes, st .rows, sym (st .nodes)))
 
 returns : tie.Need-returns
 returns c =

@@ -1,9 +1,11 @@
 -- `define::define_window` meets its contract: the flag is set, or the rest of the window is written.
 use borrow.Author.Needs.{needs}
+use Rattle.totdb.specs.Nodes.{at}
 use Rattle.cert.specs.Definitions.{window}
 use Rattle.cert.specs.State.{stepIn}
 use Rattle.define.specs.Tables.{memory, slot}
 use Rattle.define.proofs.Codes.{window-handed, window-count}
+use Rattle.define.proofs.Does.{exact-of}
 use Rattle.define.proofs.Looks.{full-defines, define-does}
 use Rattle.define.proofs.Slots.{window-named}
 use Rattle.define.proofs.define_window.Statement.{statement}
@@ -36,7 +38,21 @@ part-put-window-end : tie.Need-part-put-window-end
 part-put-window-end c = search needs
 
 put-window-requires : tie.Need-put-window-requires
-put-window-requires c κs = search needs
+put-window-requires c κs =
+    let else = c .before .before .before in
+    let start = else .before .before .before .before .before .before in
+    let b = start .pre .1 .0 in
+    let s = start .pre .1 .1 .2 in
+    record {
+      nodes = b .nodes;
+      size = start .pre .0 .firsts-size;
+      values = b .values;
+      several = b .several;
+      inside = search needs;
+      at-step = stepIn (s .state .stored);
+      of = at (s .table) (start .args .node);
+      handed = window-handed (s .lists) (s .holds .0) (exact-of (else .if1 .left) (s .stands)) (else .if1 .left);
+    }
 
 mul-store : tie.Need-mul-store
 mul-store c = search needs

@@ -3,9 +3,10 @@ use borrow.Author.Needs.{needs}
 use mathlib.Core.Path.{refl}
 use Prim.Native.Nat.{_*_}
 use native.Mathlib.Omega.{arith}
+use Rattle.totdb.specs.Nodes.{at}
 use Rattle.cert.specs.Definitions.{real, pulls}
 use Rattle.define.specs.Tables.{memory, slot}
-use Rattle.define.proofs.Codes.{part-short, real-bounds, real-writes, real-count}
+use Rattle.define.proofs.Codes.{part-short, real-bounds, real-node, real-writes, real-count}
 use Rattle.define.proofs.Looks.{full-does, there-does, define-does, new-does}
 use Rattle.define.proofs.Slots.{real-named}
 use Rattle.define.proofs.look_up_real.Statement.{statement}
@@ -16,7 +17,7 @@ mul-slot c = search needs
 
 add-slot : tie.Need-add-slot
 add-slot c =
-    let b = real-bounds (c .before .before .before .before .before .pre .1) in
+    let b = real-bounds (c .before .before .before .before .before .pre .1 .1) in
     search needs
 
 returns : tie.Need-returns
@@ -26,13 +27,13 @@ returns c =
 
 mul-if2 : tie.Need-mul-if2
 mul-if2 c =
-    let b = real-bounds (c .before .before .before .before .before .before .before .pre .1) in
+    let b = real-bounds (c .before .before .before .before .before .before .before .pre .1 .1) in
     search needs
 
 slice-read-if2 : tie.Need-slice-read-if2
 slice-read-if2 c =
     let p = c .before .before .before .before .before .before .before .before .pre in
-    let b = real-bounds (p .1) in
+    let b = real-bounds (p .1 .1) in
     omega (arith, b .nodes, b .values, p .0 .firsts-size)
 
 returns-2 : tie.Need-returns-2
@@ -45,7 +46,7 @@ returns-2 c =
 
 output-requires : tie.Need-output-requires
 output-requires c κs =
-    let b = real-bounds (c .before .before .before .before .before .before .before .before .before .pre .1) in
+    let b = real-bounds (c .before .before .before .before .before .before .before .before .before .pre .1 .1) in
     (b .nodes, b .length, b .outputs-size)
 
 mul-put-real : tie.Need-mul-put-real
@@ -56,7 +57,7 @@ mul-put-real-2 c = search needs
 
 add-put-real : tie.Need-add-put-real
 add-put-real c =
-    let b = real-bounds (c .before .before .before .before .before .before .before .before .before .before .before .pre .1) in
+    let b = real-bounds (c .before .before .before .before .before .before .before .before .before .before .before .pre .1 .1) in
     search needs
 
 mul-put-real-3 : tie.Need-mul-put-real-3
@@ -70,7 +71,7 @@ part-put-real-start c = search needs
 
 part-put-real-end : tie.Need-part-put-real-end
 part-put-real-end c =
-    let b = real-bounds (c .before .before .before .before .before .before .before .before .before .before .before .pre .1) in
+    let b = real-bounds (c .before .before .before .before .before .before .before .before .before .before .before .pre .1 .1) in
     omega (arith, b .nodes, b .length, b .leaves-size)
 
 put-real-requires : tie.Need-put-real-requires
@@ -78,8 +79,11 @@ put-real-requires c κs =
     let output = c .before .before in
     let start = output .before .before .before .before .before .before .before .before .before .before in
     let a = start .args in
-    let b = real-bounds (start .pre .1) in
-    (part-short (64 * a .node) (a .len) (a .leaves .now) (b .length), b .values, rw (output .output .ensures) (b .low))
+    let s = start .pre .1 .1 in
+    let b = real-bounds s in (
+      (part-short (64 * a .node) (a .len) (a .leaves .now) (b .length), b .values, rw (output .output .ensures) (b .low)),
+      (at (s .table) (a .node), real-node (output .output .ensures) (s .table) (s .lists) (s .holds)),
+    )
 
 count-real-requires : tie.Need-count-real-requires
 count-real-requires c κs = search needs
@@ -88,7 +92,7 @@ store-requires : tie.Need-store-requires
 store-requires c κs =
     let output = c .before .before .before .before .before .before .before .before in
     let p = output .before .before .before .before .before .before .before .before .before .before .pre in
-    let b = real-bounds (p .1) in
+    let b = real-bounds (p .1 .1) in
     omega (arith, b .nodes, b .values, p .0 .firsts-size)
 
 same-length : tie.Need-same-length

@@ -11,6 +11,7 @@ use Rattle.cert.specs.Definitions.{windowReals}
 use Rattle.cert.specs.State.{lookUp}
 use Rattle.define.specs.Tables.{memory, Does, WindowIn}
 use Rattle.define.proofs.Codes.{window-bounds, real-shown, reals-more, reals-none}
+use Rattle.define.proofs.Does.{shown-after}
 use Rattle.define.proofs.look_up_reals.Statement.{statement}
 use Rattle.define.proofs.look_up_reals.Tie as tie
 
@@ -30,12 +31,12 @@ loop-holds c =
 
 add-look-up-real : tie.Need-add-look-up-real Inv-loop μ-loop
 add-look-up-real c =
-    let b = window-bounds (c .before .before .before .before .before .before .before .before .before .before .pre .1) in
+    let b = window-bounds (c .before .before .before .before .before .before .before .before .before .before .pre .1 .1) in
     search needs
 
 add-look-up-real-2 : tie.Need-add-look-up-real-2 Inv-loop μ-loop
 add-look-up-real-2 c =
-    let b = window-bounds (c .before .before .before .before .before .before .before .before .before .before .pre .1) in
+    let b = window-bounds (c .before .before .before .before .before .before .before .before .before .before .pre .1 .1) in
     search needs
 
 look-up-real-requires : tie.Need-look-up-real-requires Inv-loop μ-loop
@@ -44,9 +45,11 @@ look-up-real-requires c κs =
     let inv = test .before .loop .inv in
     let start = test .before .before .before .before .before .before .before in
     let p = start .pre in
-    let b = window-bounds (p .1) in
-    let less : test .before .loop .i < start .args .len = omega (arith, b .several, test .loop-test .taken) in
-    (record { firsts-size = inv .2 ∙ p .0 .firsts-size; steps-size = inv .3 ∙ p .0 .steps-size }, real-shown less (p .1))
+    let b = window-bounds (p .1 .1) in
+    let less : test .before .loop .i < start .args .len = omega (arith, b .several, test .loop-test .taken) in (
+      record { firsts-size = inv .2 ∙ p .0 .firsts-size; steps-size = inv .3 ∙ p .0 .steps-size },
+      (p .1 .0, real-shown less (shown-after (λ t l w. w) (inv .4 (p .1 .0)) (p .1 .1))),
+    )
 
 add-i : tie.Need-add-i Inv-loop μ-loop
 add-i c = search needs
@@ -54,7 +57,7 @@ add-i c = search needs
 loop-less : tie.Need-loop-less Inv-loop μ-loop
 loop-less c =
     let test = c .before .before .before .before .before .before .before .before .before .before in
-    let b = window-bounds (test .before .before .before .before .before .before .before .pre .1) in
+    let b = window-bounds (test .before .before .before .before .before .before .before .pre .1 .1) in
     omega (arith, b .several, test .loop-test .taken)
 
 loop-again : tie.Need-loop-again Inv-loop μ-loop
@@ -63,7 +66,7 @@ loop-again c =
     let test = look .before .before .before .before in
     let loop = test .before .loop in
     let start = test .before .before .before .before .before .before .before in
-    let b = window-bounds (start .pre .1) in
+    let b = window-bounds (start .pre .1 .1) in
     let less : loop .i < start .args .len = omega (arith, b .several, test .loop-test .taken) in
     (omega arith, search needs, search needs, search needs, λ h. reals-more less (loop .inv .4 h) (look .look-up-real .ensures h))
 

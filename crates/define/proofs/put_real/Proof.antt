@@ -30,7 +30,7 @@ returns : tie.Need-returns
 returns c =
     let one = c .before .before in
     let a = one .before .before .before .before .before .args in
-    λ x e o. rw (← zero-is x (a .value) (omega arith), e) (one .put-sum .ensures)
+    λ x k. rw (← zero-is x (a .value) (omega arith), k .leaf-list) (one .put-sum .ensures)
 
 put-sum-requires-2 : tie.Need-put-sum-requires-2
 put-sum-requires-2 c κs = search needs
@@ -42,9 +42,9 @@ returns-2 : tie.Need-returns-2
 returns-2 c =
     let one = c .before .before in
     let a = one .before .before .before .before .before .before .args in
-    λ x e o.
-    let n = len-is x e in
-    rw (← above-is x (a .value) (omega arith) (omega arith), e) (one .put-sum2 .ensures)
+    λ x k.
+    let n = len-is x (k .leaf-list) in
+    rw (← above-is x (a .value) (omega arith) (omega arith), k .leaf-list) (one .put-sum2 .ensures)
 
 add-put-sum : tie.Need-add-put-sum
 add-put-sum c = search needs
@@ -85,10 +85,10 @@ returns-3 c =
     let negated = two .before .before in
     let one = negated .before .before .before in
     let a = one .before .before .before .before .before .before .args in
-    λ x e o.
-    let n = len-is x e in
-    let w = o (omega arith) (omega arith) in
-    rw (← within-is x (a .value) (omega arith) (omega arith), e, n, w)
+    λ x k.
+    let n = len-is x (k .leaf-list) in
+    let w = k .literal (omega arith) (omega arith) in
+    rw (← within-is x (a .value) (omega arith) (omega arith), k .leaf-list, n, w)
     (after (one .put-sum3 .ensures) (rw (negated .neg .ensures) at (two .put-sum4 .ensures)))
 
 pub put-real-spec : {M : Type 1} → statement M

@@ -59,8 +59,8 @@ returns : tie.Need-returns
 returns c =
     let a = c .args in
     λ t rows lists e low. (
-      rows-leaf (a .nodes .now) t (a .n) (a .literal) rows e (c .pre .1),
-      lists-leaf (a .leaves .now) (a .outputs .now) t (a .n) (a .literal) lists e (c .pre .1) low,
+      rows-leaf (a .nodes .now) t (a .n) (a .literal) rows e (c .pre .0 .1),
+      lists-leaf (a .leaves .now) (a .outputs .now) t (a .n) (a .literal) lists e (c .pre .0 .1) low,
     )
 
 pub add-leaf-spec : {M : Type 1} → statement M

@@ -1,10 +1,11 @@
 -- `nodes::copy_side` meets its contract: after i turns the first i of the side's literals are copied.
 use mathlib.Core.Path.{_≡_, refl, sym, ap, _∙_}
 use Prim.Native.Nat.{_-_, _≤_}
+use native.Mathlib.Omega.{arith}
 use borrow.Author.Needs.{needs}
 use lib.ListN.{length, length-set}
 use lib.Seq.{paste, paste-zero}
-use Rattle.nodes.proofs.Copying.{copy-more, copy-all, part-is, length-in}
+use Rattle.nodes.proofs.Copying.{copy-more, copy-all, part-is, length-in, length-cond}
 use Rattle.nodes.proofs.copy_side.Statement.{statement}
 use Rattle.nodes.proofs.copy_side.Tie as tie
 
@@ -28,7 +29,12 @@ add-literals : tie.Need-add-literals Inv-loop μ-loop
 add-literals c = search needs
 
 literals-requires : tie.Need-literals-requires Inv-loop μ-loop
-literals-requires c κs = search needs
+literals-requires c κs =
+    let first = c .before .before .before .before .before .before .before in
+    let a = first .args in
+    let pre = first .pre in
+    let size = length-cond (c .before .before .is-plain .result) 20416 (a .leaves .now) (a .outputs .now) (pre .leaves-size) (pre .outputs-size) in
+    omega (arith, size, pre .node, pre .within, c .before .before .before .len .ensures)
 
 loop-holds : tie.Need-loop-holds Inv-loop μ-loop
 loop-holds c =

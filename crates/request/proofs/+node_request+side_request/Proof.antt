@@ -7,7 +7,7 @@ use mathlib.Core.Path.{_≡_, refl, sym, _∙_}
 use Prim.Native.Nat.{ℕ, _+_, _-_, _*_, _≤_, _<_}
 use lib.ListN.{length, length-set}
 use Rattle.define.specs.Tables.{memory, direction}
-use Rattle.define.proofs.Does.{does-full, shown-to}
+use Rattle.define.proofs.Does.{does-full, shown-to, shown-after}
 use Rattle.define.proofs.Slots.{side-inside, node-short}
 use Rattle.request.specs.Rows.{Tables}
 use Rattle.request.proofs.Grow.{ask-grows}
@@ -239,7 +239,7 @@ node-request-returns-3 : (t : ℕ) → node-request-lts.Need-returns-3 (
 ) (node-request-at t) node-request.Post
 node-request-returns-3 t c =
     let k = c .before .before .before .before in
-    node-leaf (direction _) _ (k .place .ensures .0) (k .before .if1 .left) (c .before .before .if2 .left) (sym (c .before .number-at .ensures) ∙ c .if3 .taken)
+    node-leaf (direction _) _ (k .place .ensures .0) (k .before .if1 .left) (c .before .before .if2 .left) (omega (arith, c .before .number-at .ensures, c .if3 .taken))
 
 node-request-join-at-requires : (t : ℕ) → node-request-lts.Need-join-at-requires (
   place-reads.Asked,
@@ -257,7 +257,7 @@ node-request-join-at-requires : (t : ℕ) → node-request-lts.Need-join-at-requ
 ) (node-request-at t) node-request.Post
 node-request-join-at-requires t c κs =
     let w = c .before .before .before .before .before .before .before .before .before .before .before .before .before .before .pre .1 .1 in
-    asked-row (w .lists) (w .holds) (λ e. c .if3 .left (c .before .number-at .ensures ∙ e))
+    asked-row (w .lists) (w .holds) (λ e. omega (arith, c .if3 .left, c .before .number-at .ensures, e))
 
 node-request-len-requires : (t : ℕ) → node-request-lts.Need-len-requires (
   place-reads.Asked,
@@ -313,10 +313,10 @@ node-request-side-request-requires t c κs =
     let k = j .before .before in
     let s = k .before .before .before .before .before .before .before .before .before .before .before .before .before in
     let w = s .pre .1 .1 in (
-      omega (arith, asked-low (w .lists) (w .holds) _ (j .join-at .ensures) (λ e. j .before .if3 .left (k .number-at .ensures ∙ e)), s .pre .0),
+      omega (arith, asked-low (w .lists) (w .holds) _ (j .join-at .ensures) (λ e. omega (arith, j .before .if3 .left, k .number-at .ensures, e)), s .pre .0),
       (
         s .pre .1 .0,
-        shown-to (λ u y i. asked-left y (asked-join y i _ (j .join-at .ensures) (λ e. j .before .if3 .left (k .number-at .ensures ∙ e))) _ _ (l .before .len .ensures) (l .len2 .ensures)) w,
+        shown-to (λ u y i. asked-left y (asked-join y i _ (j .join-at .ensures) (λ e. omega (arith, j .before .if3 .left, k .number-at .ensures, e))) _ _ (l .before .len .ensures) (l .len2 .ensures)) w,
       ),
     )
 
@@ -340,11 +340,13 @@ node-request-side-request-requires-2 t c κs =
     let j = l .before .before .before .before in
     let k = j .before .before in
     let s = k .before .before .before .before .before .before .before .before .before .before .before .before .before in
-    let w = s .pre .1 .1 in (
-      omega (arith, asked-low (w .lists) (w .holds) _ (j .join-at .ensures) (λ e. j .before .if3 .left (k .number-at .ensures ∙ e)), s .pre .0),
+    let w = s .pre .1 .1 in
+    let v = shown-to (λ u y i. asked-join y i _ (j .join-at .ensures) (λ e. omega (arith, j .before .if3 .left, k .number-at .ensures, e))) w in (
+      omega (arith, asked-low (w .lists) (w .holds) _ (j .join-at .ensures) (λ e. omega (arith, j .before .if3 .left, k .number-at .ensures, e)), s .pre .0),
       (
         tables-kept _ _ _ (s .pre .1 .0) (a .kept .1 .1 .1 .0) (a .kept .1 .1 .1 .1 .0) (a .kept .1 .1 .1 .1 .1 .0),
-        shown-to (λ u y i. asked-right-side y (asked-join y i _ (j .join-at .ensures) (λ e. j .before .if3 .left (k .number-at .ensures ∙ e))) _ _ (l .before .len .ensures) (l .len2 .ensures)) w,
+        shown-to (λ u y i. asked-right-side y i _ _ (l .before .len .ensures) (l .len2 .ensures))
+            (shown-after (λ u y i. asked-left y i _ _ (l .before .len .ensures) (l .len2 .ensures)) (a .ensures) v),
       ),
     )
 
@@ -367,12 +369,16 @@ node-request-write-request-requires t c κs =
     let b = second .side-request2 in
     let first = second .before .before .before .before .before .before .before .before .before .before .before .before .before in
     let a = first .side-request in
-    let j = first .before .before .before .before .before .before .before .before .before in
+    let l = first .before .before .before .before .before in
+    let j = l .before .before .before .before in
     let k = j .before .before in
-    let s = k .before .before .before .before .before .before .before .before .before .before .before .before .before in (
+    let s = k .before .before .before .before .before .before .before .before .before .before .before .before .before in
+    let v = shown-to (λ u y i. asked-join y i _ (j .join-at .ensures) (λ e. omega (arith, j .before .if3 .left, k .number-at .ensures, e))) (s .pre .1 .1) in (
       tables-kept _ _ _ (s .pre .1 .0) (b .kept .1 .1 .1 .0 ∙ a .kept .1 .1 .1 .0) (b .kept .1 .1 .1 .1 .0 ∙ a .kept .1 .1 .1 .1 .0)
           (b .kept .1 .1 .1 .1 .1 .0 ∙ a .kept .1 .1 .1 .1 .1 .0),
-      shown-to (λ u y i. asked-join y i _ (j .join-at .ensures) (λ e. j .before .if3 .left (k .number-at .ensures ∙ e)) .join) (s .pre .1 .1),
+      shown-to (λ u y i. i .join)
+          (shown-after (λ u y i. asked-right-side y i _ _ (l .before .len .ensures) (l .len2 .ensures)) (b .ensures)
+          (shown-after (λ u y i. asked-left y i _ _ (l .before .len .ensures) (l .len2 .ensures)) (a .ensures) v)),
     )
 
 node-request-same-length-2 : (t : ℕ) → node-request-lts.Need-same-length-2 (
@@ -468,7 +474,7 @@ node-request-returns-4 t c =
     let j = l .before .before .before .before in
     let k = j .before .before in
     let i = k .before .before .before in
-    node-join (direction _) _ (i .place .ensures .0) _ (j .join-at .ensures) (i .before .if1 .left) (k .before .if2 .left) (λ e. j .before .if3 .left (k .number-at .ensures ∙ e))
+    node-join (direction _) _ (i .place .ensures .0) _ (j .join-at .ensures) (i .before .if1 .left) (k .before .if2 .left) (λ e. omega (arith, j .before .if3 .left, k .number-at .ensures, e))
     (join-done (direction _) _ _ (l .before .len .ensures) (l .len2 .ensures) (first .side-request .ensures) (second .side-request2 .ensures))
     (c .before .before .before .before .before .before .before .before .write-request .ensures)
 
@@ -646,8 +652,10 @@ side-request-node-request-requires t c κs =
     let l = c .before .before .before .before .before .before .before .before .before .before in
     let s = l .before .before .before .before .before .before .before .before .before .before in
     let low : 1 ≤ l .loop .i = omega (arith, l .loop .inv .0, l .before .before .lowest .ensures) in
-    let high : l .loop .i ≤ s .args .p = omega (arith, c .before .before .before .before .before .before .before .before .before .loop-test .taken, l .before .highest .ensures) in
-    (omega (arith, s .pre .0), (l .loop .inv .2, shown-to (λ u y w. asked-below y w _ low high) (s .pre .1 .1)))
+    let high : l .loop .i ≤ s .args .p = omega (arith, c .before .before .before .before .before .before .before .before .before .loop-test .taken, l .before .highest .ensures) in (
+      omega (arith, s .pre .0),
+      (l .loop .inv .2, shown-to (λ u y w. asked-below y w _ low high) (shown-after (λ u y w. w) (l .loop .inv .4) (s .pre .1 .1))),
+    )
 
 side-request-add-i-2 : (t : ℕ) → side-request-lts.Need-add-i-2 (
   lowest-reads.Asked,

@@ -2,7 +2,7 @@
 use borrow.Author.Needs.{needs}
 use mathlib.Core.Path.{_∙_}
 use Rattle.define.specs.Tables.{direction}
-use Rattle.define.proofs.Does.{shown-to}
+use Rattle.define.proofs.Does.{shown-to, shown-after}
 use Rattle.request.proofs.Steps.{tables-kept, both-done}
 use Rattle.request.proofs.both.Statement.{statement}
 use Rattle.request.proofs.both.Tie as tie
@@ -13,8 +13,10 @@ serve-needs-requires c κs = search needs
 serve-needs-requires-2 : tie.Need-serve-needs-requires-2
 serve-needs-requires-2 c κs =
     let a = c .before .before .before .before .before .before .before .before .before .before .before .before .serve-needs in
-    let s = c .before .before .before .before .before .before .before .before .before .before .before .before .before .before .before .before .before .before .before .before .before .before .before .before in
-    (tables-kept _ _ _ (s .pre .0) (a .kept .1 .1 .1 .0) (a .kept .1 .1 .1 .1 .0) (a .kept .1 .1 .1 .1 .1 .0), s .pre .1)
+    let s = c .before .before .before .before .before .before .before .before .before .before .before .before .before .before .before .before .before .before .before .before .before .before .before .before in (
+      tables-kept _ _ _ (s .pre .0) (a .kept .1 .1 .1 .0) (a .kept .1 .1 .1 .1 .0) (a .kept .1 .1 .1 .1 .1 .0),
+      shown-after (λ u y w. w) (a .ensures) (s .pre .1),
+    )
 
 write-request-requires : tie.Need-write-request-requires
 write-request-requires c κs =
@@ -25,7 +27,7 @@ write-request-requires c κs =
     let s = first .before .before .before .before .before .before .before .before .before .before .before .before in (
       tables-kept _ _ _ (s .pre .0) (b .kept .1 .1 .1 .0 ∙ a .kept .1 .1 .1 .0) (b .kept .1 .1 .1 .1 .0 ∙ a .kept .1 .1 .1 .1 .0)
           (b .kept .1 .1 .1 .1 .1 .0 ∙ a .kept .1 .1 .1 .1 .1 .0),
-      shown-to (λ u y w. w .join) (s .pre .1),
+      shown-to (λ u y w. w .join) (shown-after (λ u y w. w) (b .ensures) (shown-after (λ u y w. w) (a .ensures) (s .pre .1))),
     )
 
 write-request-requires-2 : tie.Need-write-request-requires-2
@@ -40,7 +42,9 @@ write-request-requires-2 c κs =
       tables-kept _ _ _ (s .pre .0) (d .kept .1 .1 .0 ∙ b .kept .1 .1 .1 .0 ∙ a .kept .1 .1 .1 .0)
           (d .kept .1 .1 .1 .0 ∙ b .kept .1 .1 .1 .1 .0 ∙ a .kept .1 .1 .1 .1 .0)
           (d .kept .1 .1 .1 .1 .0 ∙ b .kept .1 .1 .1 .1 .1 .0 ∙ a .kept .1 .1 .1 .1 .1 .0),
-      shown-to (λ u y w. w .join) (s .pre .1),
+      shown-to (λ u y w. w .join)
+          (shown-after (λ u y w. w .join) (d .ensures)
+          (shown-after (λ u y w. w) (b .ensures) (shown-after (λ u y w. w) (a .ensures) (s .pre .1)))),
     )
 
 same-length : tie.Need-same-length

@@ -1,7 +1,7 @@
 -- `request::serve_needs` meets its contract: the left side, then the right.
 use mathlib.Core.Path.{_∙_}
 use Rattle.define.specs.Tables.{direction}
-use Rattle.define.proofs.Does.{shown-to}
+use Rattle.define.proofs.Does.{shown-to, shown-after}
 use Rattle.request.proofs.Steps.{tables-kept, join-done}
 use Rattle.request.proofs.Table.{asked-left, asked-right-side}
 use Rattle.request.proofs.serve_needs.Statement.{statement}
@@ -25,7 +25,8 @@ side-request-requires-2 c κs =
     let l = c .before .before .before .before .before .before .before .before .before .before .before .before .before .before .before .before .before in
     let s = l .before .before .before .before .before .before .before .before .before .before .before in (
       tables-kept _ _ _ (s .pre .0) (a .kept .1 .1 .1 .0) (a .kept .1 .1 .1 .1 .0) (a .kept .1 .1 .1 .1 .1 .0),
-      shown-to (λ u y j. asked-right-side y j _ _ (l .before .len .ensures) (l .len2 .ensures)) (s .pre .1),
+      shown-to (λ u y j. asked-right-side y j _ _ (l .before .len .ensures) (l .len2 .ensures))
+          (shown-after (λ u y j. asked-left y j _ _ (l .before .len .ensures) (l .len2 .ensures)) (a .ensures) (s .pre .1)),
     )
 
 same-length : tie.Need-same-length

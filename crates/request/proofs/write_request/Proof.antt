@@ -8,7 +8,9 @@ use Rattle.request.proofs.write_request.Statement.{statement}
 use Rattle.request.proofs.write_request.Tie as tie
 
 write-clauses-requires : tie.Need-write-clauses-requires
-write-clauses-requires c κs = search needs
+write-clauses-requires c κs =
+    let s = c .before .before .before .before .before .before .before .before .before in
+    (record { firsts-size = s .pre .0 .firsts-size; steps-size = s .pre .0 .steps-size }, (s .args .held .now, s .pre .1))
 
 place-requires : tie.Need-place-requires
 place-requires c κs =

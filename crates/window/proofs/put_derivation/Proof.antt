@@ -20,7 +20,14 @@ put-requires-2 : tie.Need-put-requires-2
 put-requires-2 c κs = search needs
 
 put-summand-requires : tie.Need-put-summand-requires
-put-summand-requires c κs = search needs
+put-summand-requires c κs =
+    let first = c .before .before .before .before .before .before .before .before .before .before in
+    let start = first .before .before .before .before in
+    let a = start .args in
+    let several = start .pre .0 .several in
+    let low = first .first-other .ensures .1 in
+    let high = first .first-other .ensures .2 in
+    (a .offset, a .len, start .pre .0, start .pre .1, record { above = low; below = omega arith })
 
 put-rest-requires : tie.Need-put-rest-requires
 put-rest-requires c κs =

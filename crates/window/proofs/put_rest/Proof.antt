@@ -42,7 +42,10 @@ loop-holds c =
     (search needs, search needs, refl, λ at-step x handed. rw none nothing)
 
 put-added-requires : tie.Need-put-added-requires Inv-loop μ-loop
-put-added-requires c κs = search needs
+put-added-requires c κs =
+    let start = c .before .before .before .before .before .before in
+    let a = start .args in
+    (a .offset, a .len, start .pre .0, start .pre .1, search needs)
 
 add-s-2 : tie.Need-add-s-2 Inv-loop μ-loop
 add-s-2 c = search needs
