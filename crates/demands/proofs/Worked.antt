@@ -1,21 +1,23 @@
 -- Scripts that meet the hypotheses of the demands: one tree, its requests in two orders and places, one repeated and closed, each with its own log.
 use mathlib.Core.Path.{refl, sym, subst}
 use mathlib.Core.Logic.{⊎-elim}
-use mathlib.Core.List.{List, [], _∷_, List·Memᴰ, List·Memᴰ·head, List·Memᴰ·tail, List·Memᴰ·cases-cons, List·Memᴰ·not-nil}
+use mathlib.Core.List.{List, [], _∷_, flatMap, List·Memᴰ, List·Memᴰ·head, List·Memᴰ·tail, List·Memᴰ·cases-cons, List·Memᴰ·not-nil}
 use Prim.Native.Nat.{ℕ}
+use Rattle.number.specs.Number.{Bytes}
 use Rattle.memo.specs.Closure.{Same}
-use Rattle.record.specs.Record.{Record}
 use Rattle.totdb.specs.declared.Side.{Side}
 use Rattle.cert.specs.Definitions.{if, only-if}
 use Rattle.cert.specs.Requests.{Request, request}
-use Rattle.cert.specs.State.{Head}
-use Rattle.player.specs.Called.{makes, asked}
-use Rattle.player.specs.Passes.{Passes}
+use Rattle.cert.specs.State.{Head, State}
+use Rattle.player.specs.Called.{makes}
 use Rattle.player.specs.Player.{played}
-use Rattle.player.specs.Script.{Commands, readScript}
+use Rattle.player.specs.Script.{commandNumbers, scriptBytes}
+use Rattle.player.specs.Verdict.{Reached}
 use Rattle.player.specs.declared.Command.{Command}
-use Rattle.player.proofs.Scripts.{accepted-script}
-use Rattle.demands.specs.Demands.{Ends, Holds, Proved, Alike, Matching, Demand1, Demand2, Demand3}
+use Rattle.player.proofs.Runs.{asked, asked-from, asked-has}
+use Rattle.player.proofs.Accepted.{areShort, script-tested, accepted-reached}
+use Rattle.player.proofs.Coding.{areBytes, bytes-tested}
+use Rattle.demands.specs.Demands.{Alike, Meets1, Meets2, Meets3, Demand1, Demand3}
 use Rattle.demands.proofs.Demand1.{demand-1}
 use Rattle.demands.proofs.Demand2.{demand-2}
 use Rattle.demands.proofs.Demand3.{demand-3}
@@ -48,17 +50,14 @@ unfoldable six : List Command → List Command
 unfolding plain
 six cs = Command.Join (record { node = 5; offset = 1; limit = 0 }) (plain 3) ∷ cs
 
-unfoldable pub first-commands : Commands
+unfoldable pub first-commands : List Command
 unfolding five six
-first-commands = record { list = five (six (Command.Request 6 1 1 ∷ Command.Request 6 2 2 ∷ Command.Request 5 2 1 ∷ [])); ending = 0 }
+first-commands = five (six (Command.Request 6 1 1 ∷ Command.Request 6 2 2 ∷ Command.Request 5 2 1 ∷ []))
 
-unfoldable pub second-commands : Commands
+unfoldable pub second-commands : List Command
 unfolding five six
 second-commands =
-    record {
-      list = five (Command.Request 5 2 1 ∷ six (Command.Request 6 2 2 ∷ Command.Request 6 1 1 ∷ Command.Request 6 2 2 ∷ Command.Close ∷ []));
-      ending = 0;
-    }
+    five (Command.Request 5 2 1 ∷ six (Command.Request 6 2 2 ∷ Command.Request 6 1 1 ∷ Command.Request 6 2 2 ∷ Command.Close ∷ []))
 
 of-three : {a b c x : Request} {xs : List Request} → List·Memᴰ a xs → List·Memᴰ b xs → List·Memᴰ c xs → List·Memᴰ x (a ∷ b ∷ c ∷ []) → List·Memᴰ x xs
 of-three {xs = xs} i j k m =
@@ -76,27 +75,38 @@ three a b c x =
       λ m. ⊎-elim (λ e. subst (λ (y : Request). List·Memᴰ y (a ∷ b ∷ c ∷ [])) (sym e) k) (of-three j i j) (List·Memᴰ·cases-cons m),
     )
 
-pub alike : Alike first second 600 700 head first-commands second-commands
-unfolding first second head first-commands second-commands readScript played makes asked
+pub first-bytes : Bytes first
+unfolding first areBytes
+first-bytes = bytes-tested first refl
+
+pub second-bytes : Bytes second
+unfolding second areBytes
+second-bytes = bytes-tested second refl
+
+pub alike : Alike first second (played first 600) (played second 700) head first-commands second-commands
+unfolding first second head first-commands second-commands areShort scriptBytes commandNumbers flatMap played makes asked
 alike = record {
-  one-head = (refl, refl);
+  one-head = (script-tested first head first-commands refl refl, script-tested second head second-commands refl refl);
   accepted-both = (refl, refl);
   same-makes = refl;
-  same-asked = three (request 6 1 if) (request 6 2 only-if) (request 5 2 if);
+  same-asked = λ x.
+      let same = three (request 6 1 if) (request 6 2 only-if) (request 5 2 if) x in (
+        λ a. asked-from second-commands x (same .0 (asked-has first-commands x a)),
+        λ a. asked-from first-commands x (same .1 (asked-has second-commands x a)),
+      );
 }
 
 -- What the demands say of them.
-pub ends : Ends first 600
+pub ends : Meets1 first 600 (played first 600)
 unfolding Demand1
-ends = demand-1 first 600 .0
+ends = demand-1 first 600 first-bytes
 
-pub passes : Passes first 600 head first-commands
-passes = accepted-script first 600 head first-commands (alike .one-head .0) (alike .accepted-both .0)
+pub reached : (s : State) × Reached first 600 head first-commands s []
+reached = accepted-reached first-bytes (alike .one-head .0) (alike .accepted-both .0)
 
-pub proved : (rs : List Record) × Holds (played first 600) rs × Proved head (first-commands .list) rs
-unfolding Demand2
-proved = demand-2 first 600 head first-commands passes .1
+pub proved : Meets2 600 head first-commands (reached .0) (played first 600)
+proved = demand-2 .passes first 600 head first-commands (reached .0) first-bytes (reached .1)
 
-pub matched : (rs : List Record) × (qs : List Record) × Matching head (played first 600) (played second 700) rs qs
+pub matched : Meets3 head first-commands second-commands (played first 600) (played second 700)
 unfolding Demand3
-matched = let m = demand-3 first second 600 700 head first-commands second-commands alike in (m .0, m .1, m .4)
+matched = demand-3 first second 600 700 head first-commands second-commands first-bytes second-bytes alike

@@ -9,7 +9,8 @@ use Rattle.record.specs.Record.{Record, decodeLog}
 use Rattle.record.specs.Steps.{stepOf, defined}
 use Rattle.totdb.specs.Nodes.{Node}
 use Rattle.cert.specs.Definitions.{if}
-use Rattle.cert.specs.Requests.{Request, request, needs, literalsOf}
+use Rattle.cert.specs.Requests.{Request, request}
+use Rattle.cert.specs.Totalizer.{totalizer, dependencies}
 use Rattle.player.specs.Called.{table}
 use Rattle.player.specs.Player.{played}
 use Rattle.player.specs.Script.{script, headless, readScript}
@@ -52,8 +53,8 @@ unfolding readScript table
 nodesOf s = elim (readScript s) [ script h cs ↦ table h (cs .list) | headless ↦ [] ]
 
 unfoldable calls-for : List ℕ → Request → List Request → List (List ℕ) → Case
-unfolding nodesOf needs literalsOf
-calls-for s x ys cs = record { got = needed (needs (nodesOf s) x) (literalsOf (nodesOf s) x); want = needed ys cs }
+unfolding nodesOf dependencies totalizer
+calls-for s x ys cs = record { got = needed (dependencies (nodesOf s) x) (totalizer (nodesOf s) x); want = needed ys cs }
 
 -- two leaves and their join; with the request of value v in direction d
 unfoldable pair : ℕ → ℕ → List ℕ
@@ -85,7 +86,7 @@ cases =
     plays (pair 1 1) 46 (answer 0 4 46 4 2 3 pair-log)
     ∷ plays (pair 1 1) 45 (answer 14 4 0 0 0 3 (replicate 45 0))
     ∷ defines (pair 1 1) 46 2
-    ∷ calls-for (pair 1 1) (request 2 1 if) (request 0 1 if ∷ request 1 1 if ∷ []) ((3 ∷ 4 ∷ []) ∷ (1 ∷ 4 ∷ []) ∷ [])
+    ∷ calls-for (pair 1 1) (request 2 1 if) (request 1 1 if ∷ request 0 1 if ∷ []) ((3 ∷ 4 ∷ []) ∷ (1 ∷ 4 ∷ []) ∷ [])
     -- the empty script; a head alone
     ∷ plays [] 2 (answer 2 0 0 0 0 0 (0 ∷ 0 ∷ []))
     ∷ plays (2 ∷ 1 ∷ []) 2 (answer 0 0 0 0 0 0 (0 ∷ 0 ∷ []))

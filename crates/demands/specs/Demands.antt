@@ -1,24 +1,28 @@
 -- The three demands as claims about scripts of bytes, each below its words. Their proofs are in proofs/.
 use mathlib.Core.Path.{_≡_}
-use mathlib.Core.List.{List, _++_, flatMap, List·Memᴰ, List·Nodup, Perm}
+use mathlib.Core.Logic.{_≢_}
+use mathlib.Core.List.{List, [], flatMap, List·Memᴰ, List·Nodup, Perm}
 use mathlib.Core.Option.{some}
-use Prim.Native.Nat.{ℕ, suc, _+_, _≤_}
+use Prim.Native.Nat.{ℕ, _+_}
 use lib.ListN.{length, take}
-use Rattle.pb.specs.Sum.{normal, clauseSum}
-use Rattle.memo.specs.Closure.{Same}
+use Rattle.number.specs.Number.{Bytes}
+use Rattle.pb.specs.Sum.{Sum}
+use Rattle.pb.specs.Truth.{Assignment, Satisfies, SatisfiesClause}
 use Rattle.record.specs.Record.{Record, steps, clauses, decodeLog}
 use Rattle.record.specs.Steps.{stepOf, defined}
+use Rattle.record.specs.Truth.{SatisfiesSums}
 use Rattle.cert.specs.Definitions.{Key, definedBy}
+use Rattle.cert.specs.Meaning.{Means}
 use Rattle.cert.specs.Requests.{Request}
-use Rattle.cert.specs.State.{Head}
+use Rattle.cert.specs.State.{State, Head}
 use Rattle.cert.specs.Totalizer.{totalizer}
-use Rattle.player.specs.Called.{makes, asked, table, Closure, Called, KeyCalled}
-use Rattle.player.specs.Passes.{Passes}
-use Rattle.player.specs.Player.{Outcome, Padded, unrefused, played}
-use Rattle.player.specs.Script.{Commands, script, readScript}
+use Rattle.player.specs.Accepted.{NodesOf, RecordsOf}
+use Rattle.player.specs.Called.{makes, Asked, table, Closure, Called, KeyCalled}
+use Rattle.player.specs.Player.{Outcome, Padded, played}
+use Rattle.player.specs.Verdict.{IsScript, Reached, Verdict}
 use Rattle.player.specs.declared.Command.{Command}
 
--- ---- an outcome and its records
+-- ---- an outcome, its records and the state it reports
 
 -- The log cut at its length reads back as the records rs, and steps and clauses are counted over them.
 pub record Holds (o : Outcome) (rs : List Record) : Type 0 where
@@ -26,28 +30,27 @@ pub record Holds (o : Outcome) (rs : List Record) : Type 0 where
   pub steps-are : o .steps ≡ steps rs
   pub clauses-are : o .clauses ≡ length (clauses rs)
 
+-- Its records, then zeros, and the number of its nodes.
+pub record Reports (capacity : ℕ) (o : Outcome) (s : State) : Type 0 where
+  pub holds : Holds o (s .log)
+  pub padded : Padded capacity o
+  pub nodes-are : o .nodes ≡ length (s .nodes)
+
 -- ---- demand 1
 -- "Every script of bytes ends in a finished log, or in one refusal number and the command it fell on; nothing outside the lent memory is touched,
 -- and the log holds exactly the records of the commands before the refused one, then zeros." (Which memory is touched is a matter of the
 -- code, not of these definitions.)
 
--- One refusal number, that of a question.
-abbrev pub Refused : Outcome → Type 0
-Refused o = (1 ≤ o .number) × (o .number ≤ 14)
-
--- The script passes every question and ran to its end; or its head was refused, and nothing was made or written; or the command at place q + 1 was
--- refused, and all but number and place is as for the script cut before that command.
-pub data Ends (bs : List ℕ) (capacity : ℕ) : Type 0 where
-  finished : (h : Head) (cs : Commands) → Passes bs capacity h cs → played bs capacity .number ≡ 0
-      → played bs capacity .place ≡ length (cs .list) → Ends bs capacity
-  head-refused : Refused (played bs capacity) → played bs capacity .place ≡ 0 → played bs capacity .used ≡ 0 → played bs capacity .nodes ≡ 0
-      → Ends bs capacity
-  command-refused : (q : ℕ) (pre suf : List ℕ) → Refused (played bs capacity) → played bs capacity .place ≡ suc q → bs ≡ pre ++ suf
-      → played pre capacity ≡ unrefused q (played bs capacity) → Ends bs capacity
+-- Number and place are those of document 01's questions, and of no other; the outcome reports the state that the commands before leave. No script gets 13.
+pub record Meets1 (bs : List ℕ) (capacity : ℕ) (o : Outcome) : Type 0 where
+  pub state : State
+  pub verdict : Verdict bs capacity (o .number) (o .place) state
+  pub reports : Reports capacity o state
+  pub only : (n p : ℕ) (s : State) → Verdict bs capacity n p s → (n ≡ o .number) × (p ≡ o .place) × Reports capacity o s
+  pub not-13 : o .number ≢ 13
 
 unfoldable pub Demand1 : Type 0
-Demand1 = (bs : List ℕ) (capacity : ℕ) → Ends bs capacity × Padded capacity (played bs capacity)
-    × ((rs : List Record) × Holds (played bs capacity) rs)
+Demand1 = (bs : List ℕ) (capacity : ℕ) → Bytes bs → Meets1 bs capacity (played bs capacity)
 
 -- ---- demand 2
 -- "For every script that passes document 01's questions, the log equals what the Rust records for the same commands; its clauses are those of the
@@ -58,28 +61,49 @@ Demand1 = (bs : List ℕ) (capacity : ℕ) → Ends bs capacity × Padded capaci
 abbrev pub Enumerates : {A : Type 0} → List A → (A → Type 0) → Type 0
 Enumerates {A} xs P = (a : A) → (List·Memᴰ a xs → P a) × (P a → List·Memᴰ a xs)
 
--- The records of an accepted script: `served` are its requests and all they need below,
--- `stored` the definitions that their clauses look up, each once.
+-- An assignment satisfies what every step comes to, and every clause.
+pub record SatisfiesAll (first : ℕ) (rs : List Record) (a : Assignment) : Type 0 where
+  pub every-step : (n : ℕ) (s : Sum) → stepOf first rs n ≡ some s → Satisfies a s
+  pub every-clause : (c : List ℕ) → List·Memᴰ c (clauses rs) → SatisfiesClause a c
+
+-- The records of a script that passes: `served` are its requests and all they need below, `stored` the definitions that their clauses look up, each once.
 pub record Proved (h : Head) (cs : List Command) (rs : List Record) : Type 0 where
   pub served : List Request
   pub served-once : List·Nodup served
   pub served-are : Enumerates served (Closure h cs)
   -- the clauses are the totalizer's, for each request served
   pub clauses-are : clauses rs ≡ flatMap (totalizer (table h cs)) served
-  -- the step that a clause record names comes to its clause
-  pub clause-steps : (n : ℕ) (ls : List ℕ) → List·Memᴰ (Record.clause n ls) rs → stepOf (h .step) rs n ≡ some (normal (clauseSum ls))
+  -- each stands after the derivation written for it, which comes to it; a close deletes the definitions, and nothing else is deleted
+  pub places : RecordsOf h cs rs
   pub stored : List Key
   pub stored-once : List·Nodup stored
   pub stored-are : Enumerates stored (KeyCalled h cs)
   -- every sum, and what every other derivation comes to, is the definition it is written for
   pub definitions : defined (h .step) rs ≡ flatMap (definedBy (table h cs)) stored
-  -- and each clause has a derivation of its own
+  -- and this means what it is named for
+  pub meanings : (k : Key) → List·Memᴰ k stored → Means (table h cs) k (definedBy (table h cs) k)
+  -- each clause has a derivation of its own
   pub steps-split : steps rs ≡ length (defined (h .step) rs) + length (clauses rs)
+  -- what satisfies the sums of kind 1 satisfies all that is derived from them
+  pub entailed : (a : Assignment) → SatisfiesSums a rs → SatisfiesAll (h .step) rs a
 
-unfoldable pub Demand2 : Type 0
-Demand2 =
-    (bs : List ℕ) (capacity : ℕ) (h : Head) (cs : Commands) → Passes bs capacity h cs
-    → (played bs capacity .number ≡ 0) × ((rs : List Record) × Holds (played bs capacity) rs × Proved h (cs .list) rs)
+-- What commands that passed leave.
+pub record Made (h : Head) (cs : List Command) (s : State) : Type 0 where
+  pub table-is : s .nodes ≡ table h cs
+  pub nodes : NodesOf h cs (table h cs)
+  pub proved : Proved h cs (s .log)
+
+pub record Meets2 (capacity : ℕ) (h : Head) (cs : List Command) (s : State) (o : Outcome) : Type 0 where
+  pub accepted : o .number ≡ 0
+  pub all-played : o .place ≡ length cs
+  pub reports : Reports capacity o s
+  pub made : Made h cs s
+
+-- It is so, too, of the commands before a refused one: those that passed, whatever is left to read.
+pub record Demand2 : Type 0 where
+  pub passes : (bs : List ℕ) (capacity : ℕ) (h : Head) (cs : List Command) (s : State) → Bytes bs → Reached bs capacity h cs s []
+      → Meets2 capacity h cs s (played bs capacity)
+  pub before : (bs : List ℕ) (capacity : ℕ) (h : Head) (cs : List Command) (s : State) (rest : List ℕ) → Reached bs capacity h cs s rest → Made h cs s
 
 -- ---- demand 3
 -- "For every two accepted scripts, lists of leaf, join, request and close commands, with one head and the same leaf and join commands in the same order,
@@ -88,11 +112,12 @@ Demand2 =
 -- clauses and nodes, and steps = sums defined + clauses. That set is exactly demand 2's for those requests and all they need below, and the sums are those
 -- written for its clauses' lookups, as document 01 lists both."
 
-pub record Alike (bs ds : List ℕ) (c d : ℕ) (h : Head) (cs es : Commands) : Type 0 where
-  pub one-head : (readScript bs ≡ script h cs) × (readScript ds ≡ script h es)
-  pub accepted-both : (played bs c .number ≡ 0) × (played ds d .number ≡ 0)
-  pub same-makes : makes (cs .list) ≡ makes (es .list)
-  pub same-asked : Same (asked (cs .list)) (asked (es .list))
+-- Two scripts with their outcomes.
+pub record Alike (bs ds : List ℕ) (o p : Outcome) (h : Head) (cs es : List Command) : Type 0 where
+  pub one-head : IsScript bs h cs × IsScript ds h es
+  pub accepted-both : (o .number ≡ 0) × (p .number ≡ 0)
+  pub same-makes : makes cs ≡ makes es
+  pub same-asked : (x : Request) → (Asked cs x → Asked es x) × (Asked es x → Asked cs x)
 
 pub record Matching (h : Head) (o p : Outcome) (rs qs : List Record) : Type 0 where
   pub clauses-match : Perm (clauses rs) (clauses qs)
@@ -107,8 +132,14 @@ pub record Listed (h : Head) (cs : List Command) (rs : List Record) : Type 0 whe
   pub clauses-listed : Enumerates (clauses rs) (Called h cs)
   pub proved : Proved h cs rs
 
+pub record Meets3 (h : Head) (cs es : List Command) (o p : Outcome) : Type 0 where
+  pub records : List Record
+  pub others : List Record
+  pub holds : Holds o records × Holds p others
+  pub matching : Matching h o p records others
+  pub listed : Listed h cs records × Listed h es others
+
 unfoldable pub Demand3 : Type 0
 Demand3 =
-    (bs ds : List ℕ) (c d : ℕ) (h : Head) (cs es : Commands) → Alike bs ds c d h cs es
-    → (rs : List Record) × (qs : List Record) × Holds (played bs c) rs × Holds (played ds d) qs
-    × Matching h (played bs c) (played ds d) rs qs × Listed h (cs .list) rs × Listed h (es .list) qs
+    (bs ds : List ℕ) (c d : ℕ) (h : Head) (cs es : List Command) → Bytes bs → Bytes ds → Alike bs ds (played bs c) (played ds d) h cs es
+    → Meets3 h cs es (played bs c) (played ds d)

@@ -5,3 +5,4 @@ pub mod Begin
 pub mod Heads
 pub mod Answered
 pub mod Fills
+pub mod Told

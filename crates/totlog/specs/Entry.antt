@@ -2,12 +2,12 @@
 use mathlib.Core.Path.{_≡_}
 use mathlib.Core.Bool.{true, false}
 use mathlib.Core.List.{List, [], _∷_, _++_}
-use Prim.Native.Nat.{ℕ, _+_, _-_, _≤_, _/_, _%_}
-use lib.ListN.{length, take, drop, replicate}
+use Prim.Native.Nat.{ℕ, _+_, _-_, _*_, _≤_, _/_, _%_}
+use lib.ListN.{length, getD, take, drop, replicate}
 use Rattle.record.specs.Record.{bytes, steps}
 use Rattle.cert.specs.State.{State, start, Head}
 use Rattle.define.specs.Tables.{memory}
-use Rattle.player.specs.Player.{Outcome, outcome, plays, headFits}
+use Rattle.player.specs.Player.{Outcome, outcome, plays, headFits, played}
 use Rattle.player.specs.Script.{Commands, readCommands}
 use Rattle.commands.specs.Standing.{Standing, Reported}
 use Rattle.commands.specs.declared.Totals.{Totals}
@@ -46,6 +46,27 @@ answerAfter step r = record {
   steps = r .totals .out .step - step;
   clauses = r .totals .out .clauses;
   nodes = r .totals .nodes;
+}
+
+-- What a call leaves in the log and in the answer that it is lent.
+pub record Left (script log answer log-after answer-after : List ℕ) : Type 0 where
+  pub log-is : log-after ≡ played script (length log) .log
+  pub answer-is : answer-after ≡ padded (length answer) (bytesOf (answerOf (played script (length log))))
+
+-- The number at a place of an answer: four bytes, low byte first.
+abbrev pub wordAt : List ℕ → ℕ → ℕ
+wordAt bs i = getD bs i 0 + 256 * getD bs (i + 1) 0 + 65536 * getD bs (i + 2) 0 + 16777216 * getD bs (i + 3) 0
+
+-- The outcome that a log and an answer of 24 bytes or more tell.
+abbrev pub told : List ℕ → List ℕ → Outcome
+told log answer = record {
+  number = wordAt answer 0;
+  place = wordAt answer 4;
+  used = wordAt answer 8;
+  steps = wordAt answer 12;
+  clauses = wordAt answer 16;
+  nodes = wordAt answer 20;
+  log = log;
 }
 
 -- ---- the commands

@@ -129,7 +129,7 @@ command-requires c κs =
     let l = turn .loop in
     let b = entry .pre .1 in
     let g = l .inv .9 (b .head) (b .capacity) (b .standing) in
-    record { head = b .head; capacity = b .capacity; state = g .state; standing = g .standing }
+    (record { head = b .head; capacity = b .capacity; state = g .state; standing = g .standing }, unfold start in b .standing .variable)
 
 add-t38 : tie.Need-add-t38 Inv-loop μ-loop
 add-t38 c =

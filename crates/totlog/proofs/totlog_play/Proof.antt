@@ -28,10 +28,11 @@ same-length-2 c = search needs
 
 returns : tie.Need-returns
 returns c =
-    let s = c .before .before .before .before .before .before .before .before .play-into .ensures in (
-      s .1,
-      c .before .before .pad .ensures ∙ ap (λ (l : List ℕ). padded (length (c .before .before .before .before .before .before .before .before .before .before .before .before .before .args .answer .now)) l) (c .before .before .before .before .before .bytes .ensures ∙ ap bytesOf (s .0)),
-    )
+    let s = c .before .before .before .before .before .before .before .before .play-into .ensures in
+    record {
+      log-is = s .1;
+      answer-is = c .before .before .pad .ensures ∙ ap (λ (l : List ℕ). padded (length (c .before .before .before .before .before .before .before .before .before .before .before .before .before .args .answer .now)) l) (c .before .before .before .before .before .bytes .ensures ∙ ap bytesOf (s .0));
+    }
 
 pub totlog-play-spec : {M : Type 1} → statement M
 totlog-play-spec =
