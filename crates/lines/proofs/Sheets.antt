@@ -7,29 +7,28 @@ use lib.Seq.{length-take-le}
 use Rattle.player.specs.Player.{played, mostBytes}
 use Rattle.totlog.specs.Entry.{answerOf}
 use Rattle.totlog.specs.declared.Answer.{Answer}
-use Rattle.demands.specs.Demands.{Demand1}
-use Rattle.demands.proofs.Demand1.{demand-1}
+use Rattle.player.proofs.Refusal.{padded}
 use Rattle.listing.specs.Order.{before}
 use Rattle.lines.specs.Sheet
 use Rattle.listing.specs.Line.{line}
 use Rattle.lines.specs.Sheet.{header, refusal, sheetOf, sheet}
 use Rattle.listing.specs.Walk.{clauseAt, clausePlaces, linesAt}
+use Rattle.text.specs.Text.{Page, Prints}
+use Rattle.text.proofs.Laws.{after}
 use Rattle.lines.proofs.Played.{log-clauses}
 use Rattle.lines.proofs.Sort.{map-sort}
 
 module _ (script : List ℕ) {log : List ℕ} {a : Answer} (p : a ≡ answerOf (played script mostBytes)) (q : log ≡ played script mostBytes .log) where
   pub used-within : a .length ≤ length log
-  unfolding Demand1
-  used-within = let d = demand-1 script mostBytes .1 in rw (p, q, d .whole) (d .within)
+  used-within = let d = padded mostBytes script in rw (p, q, d .whole) (d .within)
 
   pub cut-length : a .length ≡ length (take (a .length) log)
   cut-length = sym (length-take-le (a .length) log used-within)
 
   pub cut-within : length (take (a .length) log) ≤ mostBytes
-  unfolding Demand1
-  cut-within = let d = demand-1 script mostBytes .1 in rw (← cut-length, p) (d .within)
+  cut-within = let d = padded mostBytes script in rw (← cut-length, p) (d .within)
 
-  pub refused-sheet : (a .number ≡ 0 → ⊥) → refusal (a .number) (a .place) ≡ sheet script
+  refused-sheet : (a .number ≡ 0 → ⊥) → refusal (a .number) (a .place) ≡ sheet script
   unfolding sheetOf
   refused-sheet h = go (a .number) refl
     where
@@ -40,7 +39,7 @@ module _ (script : List ℕ) {log : List ℕ} {a : Answer} (p : a ≡ answerOf (
           let f : played script mostBytes .place ≡ a .place = ap (λ (b : Answer). b .place) (sym p) in
           rw (k, sheetOf, f, e)
 
-  pub accepted-sheet : a .number ≡ 0 → header (a .nodes) (a .steps) (a .clauses) ++ linesAt (take (a .length) log) ≡ sheet script
+  accepted-sheet : a .number ≡ 0 → header (a .nodes) (a .steps) (a .clauses) ++ linesAt (take (a .length) log) ≡ sheet script
   unfolding sheetOf linesAt
   accepted-sheet h =
       let o = played script mostBytes in
@@ -49,3 +48,11 @@ module _ (script : List ℕ) {log : List ℕ} {a : Answer} (p : a ≡ answerOf (
       let sorted : linesAt l ≡ flatMap line (Sheet.sorted (Sheet.clausesIn l)) =
       ap (flatMap line) (map-sort (clauseAt l) before (clausePlaces l (length l) 0) ∙ ap Sheet.sorted (log-clauses script mostBytes)) in
       rw (p, q, k, sheetOf, sorted)
+
+  -- The same of what is printed, where the numbers printed are those of the answer.
+  pub refusal-printed : {p q : Page} {n c : ℕ} → Prints p (refusal n c) q → n ≡ a .number → c ≡ a .place → (a .number ≡ 0 → ⊥) → Prints p (sheet script) q
+  refusal-printed k i j h = rw (i, j, refused-sheet h) at k
+
+  pub sheet-printed : {p q r : Page} {n s c : ℕ} → Prints p (header n s c) q → Prints q (linesAt (take (a .length) log)) r
+      → n ≡ a .nodes → s ≡ a .steps → c ≡ a .clauses → a .number ≡ 0 → Prints p (sheet script) r
+  sheet-printed k l i j m h = rw (i, j, m, accepted-sheet h) at (after k l)

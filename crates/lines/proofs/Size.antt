@@ -5,21 +5,19 @@ use mathlib.Core.List.{List, [], _∷_, flatMap}
 use Prim.Native.Nat.{ℕ, zero, suc, _+_, _*_, _^_, _≤_, _<_}
 use native.Mathlib.Omega.{arith}
 use lib.ListN.{length, length-append}
-use Rattle.number.specs.Number.{groups, encode}
-use Rattle.number.proofs.Laws.{encode-some, encode-length, readIn-rest}
+use Rattle.number.specs.Number.{encode}
+use Rattle.number.proofs.Laws.{encode-some, encode-length}
 use Rattle.memo.proofs.Lists.{length-perm, flatMap-append, flatMap-perm}
 use Rattle.record.specs.Record.{Record, sum, derivation, clause, deletion, numbers, bytes, clauses}
 use Rattle.record.proofs.Bytes.{two-bytes}
-use Rattle.cert.specs.State.{Head}
-use Rattle.player.specs.Player.{Outcome, outcome, unrefused, played, mostBytes}
-use Rattle.player.specs.Script.{Next, command, refuse, end, readCommand, closes, stop, before, readCommands, Commands, script, readScript}
+use Rattle.player.specs.Formed.{Treed}
+use Rattle.player.specs.Player.{Outcome, outcome, played, mostBytes}
 use Rattle.player.proofs.Counts.{all-keep}
-use Rattle.player.proofs.Refusal.{outcome-place, head-read}
+use Rattle.player.proofs.Endings.{ending}
+use Rattle.player.proofs.Refusal.{outcome-number, outcome-place}
 use Rattle.player.proofs.Scripts.{accepted-reads, passes-is}
 use Rattle.player.proofs.Sound.{sound-start}
-use Rattle.player.proofs.Tree.{Treed, treed-start, treed-act, few-nodes}
-use Rattle.demands.specs.Demands.{Ends, finished, head-refused, command-refused, Demand1}
-use Rattle.demands.proofs.Demand1.{demand-1}
+use Rattle.player.proofs.Tree.{treed-start, treed-act, few-nodes}
 use Rattle.text.specs.Text.{decimal, spaced}
 use Rattle.text.proofs.Laws.{decimal-length}
 use Rattle.listing.specs.Line.{line}
@@ -95,40 +93,18 @@ nodes-most bs capacity e =
     let h = a .0 in
     rw (passes-is (a .2)) (few-nodes (all-keep (Treed h) (treed-act h) (a .2 .all) (sound-start h) (treed-start h)))
 
--- A script has at most as many commands as bytes.
-list-most : (k : ℕ) (closed : Bool) (bs : List ℕ) → length (readCommands k closed bs .list) ≤ k
-unfolding readCommands stop before
-list-most zero closed bs = omega arith
-list-most (suc k) closed bs = by (readCommand closed bs) refl (list-most k)
-  where
-    by : (t : Next) → readCommand closed bs ≡ t → ((d : Bool) (r : List ℕ) → length (readCommands k d r .list) ≤ k)
-        → length (readCommands (suc k) closed bs .list) ≤ suc k
-    by (command c rest) e ih = rw (e, readCommands) (omega (arith, ih (closes c) rest))
-    by (refuse n) e ih = rw (e, readCommands) (omega arith)
-    by end e ih = rw (e, readCommands) (omega arith)
-
-commands-most : (bs : List ℕ) (h : Head) (cs : Commands) → readScript bs ≡ script h cs → length (cs .list) ≤ length bs
-commands-most bs h cs e =
-    let r = head-read bs h cs e in
-    let k = rw (r .rest) at (list-most (length (r .after-two)) false (r .after-two)) in
-    omega (arith, readIn-rest groups bs (r .one) .1, readIn-rest groups (r .after-one) (r .two) .1)
-
-refusal-low : (bs : List ℕ) (capacity n : ℕ) → played bs capacity .number ≡ suc n → Ends bs capacity
+refusal-low : (bs : List ℕ) (capacity n : ℕ) → played bs capacity .number ≡ suc n
     → (played bs capacity .number ≤ 14) × (played bs capacity .place ≤ mostBytes + 1)
-unfolding unrefused
-refusal-low bs capacity n e (finished h cs a z p) = absurd (omega arith)
-refusal-low bs capacity n e (head-refused r p u m) = (r .1, omega arith)
-refusal-low bs capacity n e (command-refused q pre suf r p s z) =
-    let a = accepted-reads pre capacity (rw z) in
-    let k = a .2 in
-    let count : q ≡ length (a .1 .list) =
-    ap (λ (o : Outcome). o .place) (sym z ∙ passes-is k) ∙ outcome-place capacity 0 (length (a .1 .list)) (k .state) in
-    (r .1, omega (arith, commands-most pre (a .0) (a .1) (k .reads), k .short))
+refusal-low bs capacity n e =
+    let k = ending bs capacity in
+    let low : k .number ≤ 14 = k .number-low in
+    let number : played bs capacity .number ≡ k .number = ap (λ (o : Outcome). o .number) (k .is) ∙ outcome-number capacity (k .number) (k .place) (k .state) in
+    let place : played bs capacity .place ≡ k .place = ap (λ (o : Outcome). o .place) (k .is) ∙ outcome-place capacity (k .number) (k .place) (k .state) in
+    (omega arith, omega (arith, k .place-low))
 
 -- ---- the sheet
 
 pub sheet-length : (bs : List ℕ) → length (sheet bs) ≤ mostSheet
-unfolding Demand1
 sheet-length bs = by (played bs mostBytes .number) refl
   where
     by : (n : ℕ) → played bs mostBytes .number ≡ n → length (sheet bs) ≤ mostSheet
@@ -141,5 +117,5 @@ sheet-length bs = by (played bs mostBytes .number) refl
         (omega (arith, k .1 .steps-are, two-bytes (k .0))) (omega (arith, k .1 .clauses-are, lines-some (clauses (k .0)))) in
         rw (k .2 .is) (simp length-append (omega (arith, length-perm (flatMap-perm line (k .2 .each-as-often)))))
     by (suc n) e =
-        let low = refusal-low bs mostBytes n e (demand-1 bs mostBytes .0) in
+        let low = refusal-low bs mostBytes n e in
         rw (refused bs n e) (omega (arith, refusal-length (suc n) (played bs mostBytes .place) (omega arith) (omega arith)))

@@ -19,13 +19,13 @@ use Rattle.listing.specs.Walk.{item, read, itemAt, skip, afterToken, ski
 
 -- ---- the number at a place
 
-pub read-number : (n : ℕ) {q : Reading} {x e : ℕ} → q ≡ Number x e → item x e ≡ read n q
+pub read-number : (n : ℕ) {q : Reading} {x e v f : ℕ} → q ≡ Number x e → v ≡ x → f ≡ e → item v f ≡ read n q
 unfolding read
-read-number n h = rw h
+read-number n h i j = rw (h, i, j)
 
-pub read-bad : (n : ℕ) {q : Reading} → q ≡ Bad → item 0 n ≡ read n q
+pub read-bad : (n : ℕ) {q : Reading} {v f : ℕ} → q ≡ Bad → v ≡ 0 → f ≡ n → item v f ≡ read n q
 unfolding read
-read-bad n h = rw h
+read-bad n h i j = rw (h, i, j)
 
 -- ---- a loop of k turns before its turn i
 

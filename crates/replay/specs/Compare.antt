@@ -1,19 +1,12 @@
--- The parts of a comparison: the numbers of an answer's bytes, and two answers alike.
+-- What it is to meet a recorded answer.
 use mathlib.Core.Path.{_≡_}
 use mathlib.Core.List.{List}
-use Prim.Native.Nat.{ℕ, _+_, _*_}
-use lib.ListN.{getD}
-use Rattle.replay.specs.declared.input.Answer.{Answer}
+use Prim.Native.Nat.{ℕ}
+use Rattle.player.specs.Player.{played}
+use Rattle.totlog.specs.Entry.{answerOf, padded}
+use Rattle.totlog.specs.declared.Answer.{Answer}
 
--- The number at a place: four bytes, low byte first.
-abbrev pub wordAt : List ℕ → ℕ → ℕ
-wordAt bs at = getD bs at 0 + 256 * getD bs (at + 1) 0 + 65536 * getD bs (at + 2) 0 + 16777216 * getD bs (at + 3) 0
-
--- All six numbers are the same.
-pub record Same (a b : Answer) : Type 0 where
-  pub number : a .number ≡ b .number
-  pub place : a .place ≡ b .place
-  pub length : a .length ≡ b .length
-  pub steps : a .steps ≡ b .steps
-  pub clauses : a .clauses ≡ b .clauses
-  pub nodes : a .nodes ≡ b .nodes
+-- A script, played on a log of so many bytes, has the six numbers recorded, and the recorded log with zeros after it.
+pub record Met (script : List ℕ) (capacity : ℕ) (answer : Answer) (recorded : List ℕ) : Type 0 where
+  pub numbers : answerOf (played script capacity) ≡ answer
+  pub log : played script capacity .log ≡ padded capacity recorded

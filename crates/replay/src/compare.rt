@@ -1,11 +1,13 @@
 // A case played through the library, and its answer and log held to the recorded ones.
-use crate::input::Answer;
 use crate::report;
+use totlog::Answer;
 ghost use mathlib.Core.Bool.{true, false};
 ghost use mathlib.Core.Path.{_≡_};
 ghost use Prim.Native.Nat.{ℕ, _+_, _<_, _≤_};
 ghost use lib.ListN.{length, getD};
-ghost use Rattle.replay.specs.Compare.{wordAt, Same};
+ghost use Rattle.player.specs.Player.{played};
+ghost use Rattle.totlog.specs.Entry.{answerOf, wordAt};
+ghost use Rattle.replay.specs.Compare.{Met};
 
 fn wide(x: u8) -> u32
     ensures { λ r. ⌜ r ≡ x ⌝ }
@@ -23,7 +25,10 @@ fn word(b: &[u8; 24], at: usize) -> u32
 }
 
 // What the library answers to a script and a log.
-fn answer_to(script: &[u8], log: &mut [u8]) -> Answer {
+fn answer_to(script: &[u8], log: &mut [u8]) -> Answer
+    ensures { λ r. ⌜ (r ≡ answerOf (played (now (script .entry)) (length (now (log .entry)))))
+        × (now (log .exit) ≡ played (now (script .entry)) (length (now (log .entry))) .log) ⌝ }
+{
     let mut b = [255u8; 24];
     totlog::totlog_play(script, log, &mut b);
     Answer {
@@ -38,8 +43,7 @@ fn answer_to(script: &[u8], log: &mut [u8]) -> Answer {
 
 // Are all six numbers the same?
 fn same(a: Answer, b: Answer) -> bool
-    ensures { λ r. ⌜ (r ≡ true → Same a b) ⌝ }
-    ensures { λ r. ⌜ (r ≡ false → Same a b → ⊥) ⌝ }
+    ensures { λ r. ⌜ (r ≡ true → a ≡ b) × (r ≡ false → a ≡ b → ⊥) ⌝ }
 {
     if a.number != b.number {
         return false;
@@ -82,6 +86,14 @@ fn agreed(log: &[u8], recorded: &[u8]) -> usize
     i
 }
 
+// A case that is not met: both answers, and the first byte of the log that is not as recorded.
+fn show(log: &[u8], recorded: &[u8], n: usize, got: Answer, answer: Answer, case: u32) {
+    report::answer(case, got, answer);
+    if n < log.len() {
+        report::log(n, byte_or_zero(log, n), byte_or_zero(recorded, n));
+    }
+}
+
 // Plays a script on a log. Are the six numbers and every byte of the log as recorded?
 pub fn meets(
     script: &[u8],
@@ -90,17 +102,20 @@ pub fn meets(
     recorded: &[u8],
     case: u32,
     is_shown: bool,
-) -> bool {
+) -> bool
+    ensures { λ r. ⌜ (r ≡ true → Met (now (script .entry)) (length (now (log .entry))) answer (now (recorded .entry)))
+        × (r ≡ false → Met (now (script .entry)) (length (now (log .entry))) answer (now (recorded .entry)) → ⊥) ⌝ }
+    ensures { λ _. ⌜ now (log .exit) ≡ played (now (script .entry)) (length (now (log .entry))) .log ⌝ }
+{
     let got = answer_to(script, log);
     let n = agreed(log, recorded);
-    if same(got, answer) && n == log.len() {
-        return true;
+    if same(got, answer) {
+        if n == log.len() {
+            return true;
+        }
     }
     if is_shown {
-        report::answer(case, got, answer);
-        if n < log.len() {
-            report::log(n, byte_or_zero(log, n), byte_or_zero(recorded, n));
-        }
+        show(log, recorded, n, got, answer, case);
     }
     false
 }

@@ -1,16 +1,7 @@
 // Standard input, read piece by piece.
 use libc::STDIN_FILENO;
 use number::Reading;
-
-// The answer's six numbers.
-pub struct Answer {
-    pub number: u32,
-    pub place: u32,
-    pub length: u32,
-    pub steps: u32,
-    pub clauses: u32,
-    pub nodes: u32,
-}
+use totlog::Answer;
 
 pub enum AnswerReading {
     Answer(Answer),

@@ -1,7 +1,8 @@
 -- `lines::sheet` meets its contract: the script played, then the refusal, or the header and the lines.
 use borrow.Author.Needs.{needs}
-use Rattle.text.proofs.Laws.{after, on-front}
-use Rattle.lines.proofs.Sheets.{used-within, cut-length, cut-within, refused-sheet, accepted-sheet}
+use native.Mathlib.Omega.{arith}
+use Rattle.text.proofs.Laws.{on-front}
+use Rattle.lines.proofs.Sheets.{used-within, cut-length, cut-within, refusal-printed, sheet-printed}
 use Rattle.lines.proofs.sheet.Statement.{statement}
 use Rattle.lines.proofs.sheet.Tie as tie
 
@@ -20,7 +21,7 @@ same-length c = search needs
 returns : tie.Need-returns
 returns c =
     let p = c .before .before .before .before .before .before .before .play-into .ensures in
-    let t = on-front (rw (refused-sheet (c .before .before .before .before .before .before .before .before .before .before .before .args .script .now) (p .0) (p .1) (c .before .before .before .before .if1 .taken)) at (c .before .before .refusal .ensures)) in
+    let t = on-front (refusal-printed (c .before .before .before .before .before .before .before .before .before .before .before .args .script .now) (p .0) (p .1) (c .before .before .refusal .ensures) (omega arith) (omega arith) (c .before .before .before .before .if1 .taken)) in
     (t .1, t .0)
 
 header-requires : tie.Need-header-requires
@@ -44,8 +45,7 @@ same-length-2 c = search needs
 returns-2 : tie.Need-returns-2
 returns-2 c =
     let p = c .before .before .before .before .before .before .before .before .before .before .before .before .before .play-into .ensures in
-    let whole = after (c .before .before .before .before .before .before .before .before .header .ensures) (c .before .before .all-lines .ensures) in
-    let t = on-front (rw (accepted-sheet (c .before .before .before .before .before .before .before .before .before .before .before .before .before .before .before .before .before .args .script .now) (p .0) (p .1) (c .before .before .before .before .before .before .before .before .before .before .if1 .left)) at whole) in
+    let t = on-front (sheet-printed (c .before .before .before .before .before .before .before .before .before .before .before .before .before .before .before .before .before .args .script .now) (p .0) (p .1) (c .before .before .before .before .before .before .before .before .header .ensures) (c .before .before .all-lines .ensures) (omega arith) (omega arith) (omega arith) (c .before .before .before .before .before .before .before .before .before .before .if1 .left)) in
     (t .1, t .0)
 
 pub sheet-spec : {M : Type 1} → statement M

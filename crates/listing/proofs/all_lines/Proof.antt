@@ -24,7 +24,7 @@ same-length c = search needs
 
 returns : tie.Need-returns
 unfolding linesAt
-returns c = rw (c .before .before .before .before .before .before .before .collect .ensures .1) at (c .before .before .put-lines .ensures)
+returns c = rw (c .before .before .before .before .before .before .before .collect .ensures .0 .1) at (c .before .before .put-lines .ensures)
 
 pub all-lines-spec : {M : Type 1} → statement M
 all-lines-spec =

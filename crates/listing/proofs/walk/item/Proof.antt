@@ -1,6 +1,7 @@
 -- `walk::item` meets its contract: each arm of the match is a case of `read`.
 use borrow.Author.Needs.{needs}
 use mathlib.Core.Path.{sym, _∙_}
+use native.Mathlib.Omega.{arith}
 use lib.ListN.{length}
 use Rattle.listing.proofs.Turns.{read-number, read-bad}
 use Rattle.listing.proofs.walk.item.Statement.{statement}
@@ -18,10 +19,12 @@ enum-told c = search needs
 returns : tie.Need-returns
 returns c =
     read-number (length (c .before .before .before .before .before .args .log .now)) (sym (c .before .before .before .read .ensures) ∙ c .before .reading .given .1)
+    (omega arith) (omega arith)
 
 returns-2 : tie.Need-returns-2
 returns-2 c =
     read-bad (length (c .before .before .before .before .args .log .now)) (sym (c .before .before .read .ensures) ∙ c .enum-told .given .1)
+    (omega arith) (omega arith)
 
 pub item-spec : {M : Type 1} → statement M
 item-spec = tie.close (tie.spec read-requires enum-known-reading enum-told returns returns-2)

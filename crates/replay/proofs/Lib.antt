@@ -1,0 +1,2 @@
+-- Laws of the comparison with a recorded answer.
+pub mod Recorded
