@@ -15,7 +15,7 @@ use Rattle.pb.specs.Sum.{Term, _·_}
 use Rattle.record.specs.Record.{Record, termNumbers, tokenNumbers, numbers, sum, derivation, clause, deletion, bytes, clauses}
 use Rattle.record.proofs.Bytes.{numbers-bytes}
 use Rattle.record.proofs.Decode.{Small, numbers-some}
-use Rattle.listing.specs.Walk.{item, read, itemAt, skip, afterToken, skipTokens, afterRecord, numbersAt, clauseAt, clausePlaces}
+use Rattle.places.specs.Walk.{item, read, itemAt, afterNumber, afterToken, skip, afterRecord, numbersAt, clauseAt, countPlace, placesFrom, clausesAt}
 
 terms-length : (ts : List Term) → length (termNumbers ts) ≡ 2 * length ts
 unfolding termNumbers
@@ -54,7 +54,7 @@ module _ {log : List ℕ} where
 
   -- ---- several numbers
 
-  skipped : (ks : List ℕ) {at : ℕ} {ns : List ℕ} → Stands log at (ks ++ ns) → Stands log (skip log (length ks) at) ns
+  skipped : (ks : List ℕ) {at : ℕ} {ns : List ℕ} → Stands log at (ks ++ ns) → Stands log (skip (afterNumber log) (length ks) at) ns
   unfolding skip
   skipped [] s = s
   skipped (k ∷ ks) s = skipped ks (rest s)
@@ -64,8 +64,8 @@ module _ {log : List ℕ} where
   listed [] ns s = refl
   listed (l ∷ ls) ns s = rw (value s, listed ls ns (rest s))
 
-  tokens : (ks : List Token) {at : ℕ} {ns : List ℕ} → Stands log at (tokenNumbers ks ++ ns) → Stands log (skipTokens log (length ks) at) ns
-  unfolding skipTokens afterToken tokenNumbers
+  tokens : (ks : List Token) {at : ℕ} {ns : List ℕ} → Stands log at (tokenNumbers ks ++ ns) → Stands log (skip (afterToken log) (length ks) at) ns
+  unfolding skip afterToken tokenNumbers
   tokens [] s = s
   tokens (step n ∷ ks) s = tokens ks (rw (value s) (rest (rest s)))
   tokens (literal l ∷ ks) s = tokens ks (rw (value s) (rest (rest s)))
@@ -90,13 +90,12 @@ module _ {log : List ℕ} where
 
   -- One step of the walk, at a record whose kind is n.
   more : (k : ℕ) {at n : ℕ} {ns : List ℕ} → Stands log at (n ∷ ns)
-      → let rest = clausePlaces log k (afterRecord log at) in
-      clausePlaces log (suc k) at ≡ cond (eqb n 3) (itemAt log (itemAt log at .end) .end ∷ rest) rest
-  unfolding clausePlaces
-  more k {at} s = rw (lt-ltb at (length log) (inside s), clausePlaces) (rw (value s))
+      → let rest = placesFrom log k (afterRecord log at) in placesFrom log (suc k) at ≡ cond (eqb n 3) (countPlace log at ∷ rest) rest
+  unfolding placesFrom
+  more k {at} s = rw (lt-ltb at (length log) (inside s), placesFrom) (rw (value s))
 
   first : (r : Record) (rs : List Record) (k : ℕ) {at : ℕ} → Stands log at (numbers r ++ flatMap numbers rs)
-      → map (clauseAt log) (clausePlaces log k (afterRecord log at)) ≡ clauses rs → map (clauseAt log) (clausePlaces log (suc k) at) ≡ clauses (r ∷ rs)
+      → map (clauseAt log) (placesFrom log k (afterRecord log at)) ≡ clauses rs → map (clauseAt log) (placesFrom log (suc k) at) ≡ clauses (r ∷ rs)
   unfolding numbers clauses clauseAt
   first (sum w ts b) rs k s e = rw (more k s) e
   first (derivation ks) rs k s e = rw (more k s) e
@@ -104,10 +103,10 @@ module _ {log : List ℕ} where
   first (deletion ss) rs k s e = rw (more k s) e
 
   found : (rs : List Record) (k : ℕ) {at : ℕ} → length rs ≤ k → Stands log at (flatMap numbers rs)
-      → map (clauseAt log) (clausePlaces log k at) ≡ clauses rs
-  unfolding clausePlaces clauses flatMap
+      → map (clauseAt log) (placesFrom log k at) ≡ clauses rs
+  unfolding placesFrom clauses flatMap
   found [] zero h s = refl
-  found [] (suc k) {at} h s = rw (le-ltb at (length log) (omega (arith, ends s)), clausePlaces)
+  found [] (suc k) {at} h s = rw (le-ltb at (length log) (omega (arith, ends s)), placesFrom)
   found (r ∷ rs) zero h s = absurd (omega arith)
   found (r ∷ rs) (suc k) h s = first r rs k s (found rs k (omega arith) (passed r s))
 
@@ -116,9 +115,8 @@ unfolding flatMap
 records-numbers [] = omega arith
 records-numbers (r ∷ rs) = omega (arith, numbers-some r, length-append (numbers r) (flatMap numbers rs), records-numbers rs)
 
-pub places-clauses : (rs : List Record) → Small (flatMap numbers rs)
-    → map (clauseAt (bytes rs)) (clausePlaces (bytes rs) (length (bytes rs)) 0) ≡ clauses rs
-unfolding bytes
+pub places-clauses : (rs : List Record) → Small (flatMap numbers rs) → clausesAt (bytes rs) ≡ clauses rs
+unfolding bytes clausesAt
 places-clauses rs small =
     found rs (length (bytes rs)) (omega (arith, records-numbers rs, numbers-bytes (flatMap numbers rs)))
     (record { before = []; place = refl; is = refl; small = small })

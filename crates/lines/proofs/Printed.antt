@@ -6,29 +6,30 @@ use lib.ListN.{take}
 use Rattle.record.specs.Record.{Record, clauses}
 use Rattle.player.specs.Player.{played, mostBytes}
 use Rattle.demands.specs.Demands.{Holds}
-use Rattle.listing.specs.Order.{before, sortBy}
+use Rattle.demands.proofs.Holds.{some-holds}
+use Rattle.order.specs.Order.{before, sortBy}
+use Rattle.order.proofs.Precedes.{sort-ascending, ascending-only}
+use Rattle.order.proofs.Sort.{sort-perm}
 use Rattle.lines.specs.Printed.{Printed}
 use Rattle.lines.specs.Sheet.{refusal, sheetOf, sheet}
-use Rattle.lines.proofs.Played.{played-log, clauses-in}
-use Rattle.lines.proofs.Sort.{sort-perm, before-weak, sort-ordered, sort-stable}
+use Rattle.lines.proofs.Played.{held-log, clauses-in}
 
 module _ (script : List ℕ) where
-  pub printed : played script mostBytes .number ≡ 0 → (rs : List Record) × Holds (played script mostBytes) rs × Printed script rs
+  -- Of any records that the log reads back as.
+  pub printed-of : (rs : List Record) → played script mostBytes .number ≡ 0 → Holds (played script mostBytes) rs → Printed script rs
   unfolding sheetOf
-  printed e =
+  printed-of rs e k =
       let o = played script mostBytes in
-      let p = played-log script mostBytes in
-      let rs = p .0 in (
-        rs,
-        p .1,
-        record {
-          lines = sortBy before (clauses rs);
-          is = rw (e, sheetOf) (rw (clauses-in (take (o .used) (o .log)) rs (p .1 .decodes)));
-          each-as-often = sort-perm before (clauses rs);
-          ordered = sort-ordered before-weak (clauses rs);
-          equals-in-log-order = λ c. sort-stable before-weak c (clauses rs);
-        },
-      )
+      record {
+        lines = sortBy before (clauses rs);
+        is = rw (e, sheetOf) (rw (clauses-in (take (o .used) (o .log)) rs (k .decodes)));
+        each-as-often = sort-perm before (clauses rs);
+        ascending = sort-ascending (clauses rs) (held-log script mostBytes rs k .once);
+        only = ascending-only (clauses rs);
+      }
+
+  pub printed : played script mostBytes .number ≡ 0 → (rs : List Record) × Holds (played script mostBytes) rs × Printed script rs
+  printed e = let d = some-holds script mostBytes in (d .0, d .1, printed-of (d .0) e (d .1))
 
   pub refused : (n : ℕ) → played script mostBytes .number ≡ suc n → sheet script ≡ refusal (suc n) (played script mostBytes .place)
   unfolding sheetOf

@@ -8,15 +8,12 @@ use Rattle.player.specs.Player.{played, mostBytes}
 use Rattle.totlog.specs.Entry.{answerOf}
 use Rattle.totlog.specs.declared.Answer.{Answer}
 use Rattle.player.proofs.Refusal.{padded}
-use Rattle.listing.specs.Order.{before}
-use Rattle.lines.specs.Sheet
-use Rattle.listing.specs.Line.{line}
-use Rattle.lines.specs.Sheet.{header, refusal, sheetOf, sheet}
-use Rattle.listing.specs.Walk.{clauseAt, clausePlaces, linesAt}
+use Rattle.order.specs.Order.{sorted}
+use Rattle.listing.specs.Line.{line, linesAt}
+use Rattle.lines.specs.Sheet.{header, refusal, clausesIn, sheetOf, sheet}
 use Rattle.text.specs.Text.{Page, Prints}
 use Rattle.text.proofs.Laws.{after}
 use Rattle.lines.proofs.Played.{log-clauses}
-use Rattle.lines.proofs.Sort.{map-sort}
 
 module _ (script : List ℕ) {log : List ℕ} {a : Answer} (p : a ≡ answerOf (played script mostBytes)) (q : log ≡ played script mostBytes .log) where
   pub used-within : a .length ≤ length log
@@ -45,9 +42,9 @@ module _ (script : List ℕ) {log : List ℕ} {a : Answer} (p : a ≡ answerOf (
       let o = played script mostBytes in
       let l = take (o .used) (o .log) in
       let k : o .number ≡ 0 = ap (λ (b : Answer). b .number) (sym p) ∙ h in
-      let sorted : linesAt l ≡ flatMap line (Sheet.sorted (Sheet.clausesIn l)) =
-      ap (flatMap line) (map-sort (clauseAt l) before (clausePlaces l (length l) 0) ∙ ap Sheet.sorted (log-clauses script mostBytes)) in
-      rw (p, q, k, sheetOf, sorted)
+      let lines : linesAt l ≡ flatMap line (sorted (clausesIn l)) =
+      ap (λ (cs : List (List ℕ)). flatMap line (sorted cs)) (log-clauses script mostBytes) in
+      rw (p, q, k, sheetOf, lines)
 
   -- The same of what is printed, where the numbers printed are those of the answer.
   pub refusal-printed : {p q : Page} {n c : ℕ} → Prints p (refusal n c) q → n ≡ a .number → c ≡ a .place → (a .number ≡ 0 → ⊥) → Prints p (sheet script) q

@@ -1,6 +1,5 @@
 -- A sheet is not longer than the most: a line has at most four bytes for each byte of its record, and the numbers of the other lines are low.
-use mathlib.Core.Path.{_≡_, refl, sym, _∙_, ap}
-use mathlib.Core.Bool.{Bool, false}
+use mathlib.Core.Path.{_≡_, refl, _∙_, ap}
 use mathlib.Core.List.{List, [], _∷_, flatMap}
 use Prim.Native.Nat.{ℕ, zero, suc, _+_, _*_, _^_, _≤_, _<_}
 use native.Mathlib.Omega.{arith}
@@ -22,7 +21,7 @@ use Rattle.text.specs.Text.{decimal, spaced}
 use Rattle.text.proofs.Laws.{decimal-length}
 use Rattle.listing.specs.Line.{line}
 use Rattle.lines.specs.Sheet.{header, refusal, sheet, mostSheet}
-use Rattle.lines.proofs.Played.{held-log}
+use Rattle.lines.proofs.Played.{log-fits}
 use Rattle.lines.proofs.Printed.{printed, refused}
 
 -- ---- lines
@@ -111,7 +110,7 @@ sheet-length bs = by (played bs mostBytes .number) refl
     by zero e =
         let o = played bs mostBytes in
         let k = printed bs e in
-        let room = held-log bs mostBytes (k .0) (k .1) .2 in
+        let room = log-fits bs mostBytes (k .0) (k .1) in
         let lines = lines-length (k .0) in
         let first = header-length (o .nodes) (o .steps) (o .clauses) (omega (arith, nodes-most bs mostBytes e))
         (omega (arith, k .1 .steps-are, two-bytes (k .0))) (omega (arith, k .1 .clauses-are, lines-some (clauses (k .0)))) in

@@ -1,3 +1,4 @@
 pub mod Cases
 pub mod Printed
+pub mod Same
 pub mod Sheet

@@ -1,8 +1,5 @@
 // The sheet of a script: the header and the lines of its clauses, or the refusal. `specs/Sheet.antt` says its bytes.
-ghost use mathlib.Core.Path.{_≡_};
-ghost use Prim.Native.Nat.{min};
-ghost use lib.ListN.{length};
-ghost use Rattle.text.specs.Text.{page, Prints, laid};
+ghost use Rattle.text.specs.Text.{page, Prints};
 ghost use Rattle.lines.specs.Sheet;
 
 // `nodes N steps S clauses C`
@@ -31,8 +28,7 @@ fn refusal(out: &mut [u8], number: u32, place: u32) -> usize
 
 // The sheet, as far as `out` reaches, and how many bytes of it are there.
 pub fn sheet(script: &[u8], out: &mut [u8]) -> usize
-    ensures { λ r. ⌜ r ≡ min (length (Sheet.sheet (now (script .entry)))) (length (now (out .entry))) ⌝ }
-    ensures { λ _. ⌜ now (out .exit) ≡ laid (now (out .entry)) (Sheet.sheet (now (script .entry))) ⌝ }
+    ensures { λ r. ⌜ Sheet.Wrote (now (script .entry)) (now (out .entry)) r (now (out .exit)) ⌝ }
 {
     let mut log = [0u8; 65536];
     let a = totlog::play_into(script, &mut log);

@@ -1,4 +1,1 @@
-pub mod Collected
-pub mod Keys
 pub mod Turns
-pub mod Within

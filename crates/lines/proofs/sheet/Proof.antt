@@ -22,7 +22,7 @@ returns : tie.Need-returns
 returns c =
     let p = c .before .before .before .before .before .before .before .play-into .ensures in
     let t = on-front (refusal-printed (c .before .before .before .before .before .before .before .before .before .before .before .args .script .now) (p .0) (p .1) (c .before .before .refusal .ensures) (omega arith) (omega arith) (c .before .before .before .before .if1 .taken)) in
-    (t .1, t .0)
+    record { count = t .1; bytes = t .0 }
 
 header-requires : tie.Need-header-requires
 header-requires c κs = search needs
@@ -46,7 +46,7 @@ returns-2 : tie.Need-returns-2
 returns-2 c =
     let p = c .before .before .before .before .before .before .before .before .before .before .before .before .before .play-into .ensures in
     let t = on-front (sheet-printed (c .before .before .before .before .before .before .before .before .before .before .before .before .before .before .before .before .before .args .script .now) (p .0) (p .1) (c .before .before .before .before .before .before .before .before .header .ensures) (c .before .before .all-lines .ensures) (omega arith) (omega arith) (omega arith) (c .before .before .before .before .before .before .before .before .before .before .if1 .left)) in
-    (t .1, t .0)
+    record { count = t .1; bytes = t .0 }
 
 pub sheet-spec : {M : Type 1} → statement M
 sheet-spec =

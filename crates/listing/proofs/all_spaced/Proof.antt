@@ -6,8 +6,8 @@ use Prim.Native.Nat.{_≤_, _-_}
 use lib.ListN.{length}
 use Rattle.text.specs.Text.{Page, page, Prints, spaced}
 use Rattle.text.proofs.Laws.{after, nothing}
-use Rattle.listing.specs.Walk.{numbersAt}
-use Rattle.listing.proofs.Turns.{numbers-all, numbers-more, numbers-none}
+use Rattle.places.specs.Walk.{numbersAt}
+use Rattle.places.proofs.Turns.{numbers-all, numbers-more, numbers-none}
 use Rattle.listing.proofs.all_spaced.Statement.{statement}
 use Rattle.listing.proofs.all_spaced.Tie as tie
 
@@ -22,8 +22,8 @@ abbrev μ-loop : tie.MeasureT-loop
 loop-holds : tie.Need-loop-holds Inv-loop μ-loop
 loop-holds c = (search needs, refl, λ q h. rw (numbers-all _ (c .before .before .args .k) _) at h)
 
-item-requires : tie.Need-item-requires Inv-loop μ-loop
-item-requires c κs = search needs
+number-at-requires : tie.Need-number-at-requires Inv-loop μ-loop
+number-at-requires c κs = search needs
 
 spaced-requires : tie.Need-spaced-requires Inv-loop μ-loop
 spaced-requires c κs = search needs
@@ -38,7 +38,7 @@ loop-again : tie.Need-loop-again Inv-loop μ-loop
 unfolding flatMap
 loop-again c =
     let loop = c .before .before .before .before .before .before .loop in
-    let x = c .before .before .before .before .item .ensures in (
+    let x = c .before .before .before .before .number-at .ensures in (
       search needs,
       search needs,
       λ q h. loop .inv .2 q (rw (numbers-more _ _ (loop .i) (loop .place) (c .before .before .before .before .before .loop-test .taken)) (after (rw x at (c .before .before .spaced .ensures)) (rw x at h))),
@@ -58,7 +58,7 @@ all-spaced-spec =
     Inv-loop
     μ-loop
     loop-holds
-    item-requires
+    number-at-requires
     spaced-requires
     add-i
     loop-less

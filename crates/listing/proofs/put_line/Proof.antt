@@ -5,8 +5,8 @@ use Rattle.listing.proofs.Turns.{line-none, line-some}
 use Rattle.listing.proofs.put_line.Statement.{statement}
 use Rattle.listing.proofs.put_line.Tie as tie
 
-item-requires : tie.Need-item-requires
-item-requires c κs = search needs
+number-at-requires : tie.Need-number-at-requires
+number-at-requires c κs = search needs
 
 put-requires : tie.Need-put-requires
 put-requires c κs = search needs
@@ -15,10 +15,10 @@ same-length : tie.Need-same-length
 same-length c = search needs
 
 returns : tie.Need-returns
-returns c = rw (line-none (c .before .before .before .before .before .before .before .before .before .args .log .now) (c .before .before .before .before .before .before .before .before .before .args .place) (c .before .before .before .before .before .before .item .ensures) (c .before .before .before .before .if1 .taken)) (c .before .before .put .ensures)
+returns c = rw (line-none (c .before .before .before .before .before .before .before .before .before .args .log .now) (c .before .before .before .before .before .before .before .before .before .args .place) (c .before .before .before .before .before .before .number-at .ensures) (c .before .before .before .before .if1 .taken)) (c .before .before .put .ensures)
 
-item-requires-2 : tie.Need-item-requires-2
-item-requires-2 c κs = search needs
+number-at-requires-2 : tie.Need-number-at-requires-2
+number-at-requires-2 c κs = search needs
 
 decimal-requires : tie.Need-decimal-requires
 decimal-requires c κs = search needs
@@ -37,18 +37,18 @@ same-length-2 c = search needs
 
 returns-2 : tie.Need-returns-2
 returns-2 c =
-    rw (line-some (c .before .before .before .before .before .before .before .before .before .before .before .before .before .before .before .before .before .before .before .args .log .now) (c .before .before .before .before .before .before .before .before .before .before .before .before .before .before .before .before .before .before .before .args .place) (c .before .before .before .before .before .before .before .before .before .before .before .before .before .before .before .before .item .ensures) (c .before .before .before .before .before .before .before .before .before .before .before .before .before .before .if1 .left) (c .before .before .before .before .before .before .before .before .before .before .before .before .before .item2 .ensures))
+    rw (line-some (c .before .before .before .before .before .before .before .before .before .before .before .before .before .before .before .before .before .before .before .args .log .now) (c .before .before .before .before .before .before .before .before .before .before .before .before .before .before .before .before .before .before .before .args .place) (c .before .before .before .before .before .before .before .before .before .before .before .before .before .before .before .before .number-at .ensures) (c .before .before .before .before .before .before .before .before .before .before .before .before .before .before .if1 .left) (c .before .before .before .before .before .before .before .before .before .before .before .before .before .number-at2 .ensures))
     (after (c .before .before .before .before .before .before .before .before .before .before .before .decimal .ensures) (after (c .before .before .before .before .before .before .all-spaced .ensures) (c .before .before .put2 .ensures)))
 
 pub put-line-spec : {M : Type 1} → statement M
 put-line-spec =
     tie.close
     (tie.spec
-    item-requires
+    number-at-requires
     put-requires
     same-length
     returns
-    item-requires-2
+    number-at-requires-2
     decimal-requires
     sub-all-spaced
     all-spaced-requires

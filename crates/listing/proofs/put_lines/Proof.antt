@@ -8,17 +8,17 @@ use lib.ListN.{length, take}
 use Rattle.text.specs.Text.{page, Prints}
 use Rattle.text.proofs.Laws.{after, nothing}
 use Rattle.listing.specs.Line.{line}
-use Rattle.listing.specs.Walk.{clauseAt}
+use Rattle.places.specs.Walk.{clauseAt}
 use Rattle.listing.proofs.Turns.{lines-more, lines-all}
 use Rattle.listing.proofs.put_lines.Statement.{statement}
 use Rattle.listing.proofs.put_lines.Tie as tie
 
 abbrev Inv-loop : tie.InvT-loop
-Inv-loop log places n out₀ at end₀ i₀ out end i =
-    (i ≤ n) × (length out ≡ length out₀) × Prints (page out₀ at) (flatMap line (map (clauseAt log) (take i places))) (page out end)
+Inv-loop log places out₀ at end₀ i₀ i-end out end i =
+    (i ≤ i-end) × (length out ≡ length out₀) × Prints (page out₀ at) (flatMap line (map (clauseAt log) (take i places))) (page out end)
 
 abbrev μ-loop : tie.MeasureT-loop
-μ-loop log places n out₀ at end₀ i₀ out end i = n - i
+μ-loop log places out₀ at end₀ i₀ i-end out end i = i-end - i
 
 loop-holds : tie.Need-loop-holds Inv-loop μ-loop
 unfolding flatMap
@@ -54,7 +54,7 @@ same-length c = search needs
 returns : tie.Need-returns Inv-loop μ-loop
 returns c =
     let a = c .before .before .before .before .before .args in
-    rw (lines-all (a .log .now) (a .places .now) (a .n) (c .before .loop .i) (c .before .loop .inv .0) (c .loop-test .left)) at (c .before .loop .inv .2)
+    rw (lines-all (a .log .now) (a .places .now) (c .before .loop .i) (c .loop-test .left)) at (c .before .loop .inv .2)
 
 pub put-lines-spec : {M : Type 1} → statement M
 put-lines-spec =

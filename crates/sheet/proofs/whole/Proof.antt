@@ -19,7 +19,7 @@ returns : tie.Need-returns
 returns c =
     let a = c .before .before .before .before .before .before .args in
     let s = c .before .before .sheet .ensures in
-    let t = laid-fits (a .text .now) (sheet (a .script .now)) (omega (arith, sheet-length (a .script .now), c .before .before .before .before .before .before .pre)) (s .1) (s .0) in
+    let t = laid-fits (a .text .now) (sheet (a .script .now)) (omega (arith, sheet-length (a .script .now), c .before .before .before .before .before .before .pre)) (s .bytes) (s .count) in
     ((t .1, sym (length-take-le _ _ (t .1))), t .0)
 
 pub whole-spec : {M : Type 1} → statement M

@@ -1,0 +1,4 @@
+pub mod Cases
+pub mod Collected
+pub mod Turns
+pub mod Within
