@@ -8,7 +8,7 @@
 
 static const char usage[] =
     "totlog play [--text] [--hex] SCRIPT [LOG-SIZE]  plays a script: the answer and the log in words\n"
-    "totlog cnf [--text] SCRIPT                      plays a script: its clauses as DIMACS CNF\n"
+    "totlog cnf [--text] SCRIPT                      plays a script: its clauses as DIMACS CNF, in the sheet's order\n"
     "totlog assemble TEXT                            a script from text to bytes\n"
     "totlog disassemble BYTES                        a script from bytes to text\n"
     "\n"

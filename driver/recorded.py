@@ -3,23 +3,15 @@
 #   play   the six numbers are those recorded, and the words read back are the log's bytes
 #   --hex  the log's bytes
 #   disassemble, assemble   the same script; one that does not read gives the place of the byte that does not
-#   cnf    as many clauses as recorded, and no more variables than occur
+#   cnf    the clauses of the recorded log, in the order of the sheet's lines, and no more variables than occur
 import os, re, subprocess, sys
 
 sys.dont_write_bytecode = True
 sys.path.append(os.path.join(os.path.dirname(os.path.abspath(__file__)), "../tests"))
-from answers import Fault, number, recorded
+from answers import Fault, clauses, coded, dimacs, in_order, number, recorded
 
 driver = sys.argv[1]
 NUMBERS_AFTER = {1: 1, 2: 6, 3: 3, 4: 0}
-
-
-def coded(value):
-    out = bytearray()
-    while value > 127:
-        out.append(value & 127 | 128)
-        value >>= 7
-    return bytes(out + bytes([value]))
 
 
 def place_of_fault(script):
@@ -107,10 +99,11 @@ def check(script, log_size, answer, log):
         assert out == b"" and f", byte {place} (the first is 1): " in err, (place, err)
 
     if not refused:
-        comment, header, *clauses = run(0, script, "cnf", "-")[0].decode().splitlines()
-        literals = [int(l) for clause in clauses for l in clause.split()[:-1]]
-        assert header == f"p cnf {max(map(abs, literals), default=0)} {answer[4]}" and len(clauses) == answer[4]
-        assert comment.startswith("c ") and all(clause.endswith(" 0") for clause in clauses)
+        comment, header, *lines = run(0, script, "cnf", "-")[0].decode().splitlines()
+        wanted = in_order(clauses(log))
+        variables = max((l // 2 + 1 for literals in wanted for l in literals), default=0)
+        assert comment.startswith("c ") and header == f"p cnf {variables} {answer[4]}"
+        assert lines == [dimacs(literals) for literals in wanted]
     return place is None
 
 

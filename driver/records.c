@@ -1,6 +1,8 @@
 // The records of a log: in words, in hexadecimal, and its clauses in the form that SAT solvers read.
 #include "driver.h"
 
+#include <stdlib.h>
+
 enum { SUM = 1, DERIVATION, CLAUSE, CLOSED };  // kinds of a record
 enum { STEP, LITERAL, ADD, DIVIDE, SATURATE }; // tokens of a derivation
 
@@ -93,25 +95,44 @@ bool print_hex(struct reader log) {
     return true;
 }
 
-// ---- the clauses as DIMACS CNF
+// ---- the clauses as DIMACS CNF, in the order of the sheet's lines
+
+struct clause {
+    const uint32_t *literals;
+    uint32_t count;
+};
+
+static uint32_t last_variable(const struct clause *c) { return c->count ? c->literals[c->count - 1] / 2 : 0; }
+
+static int compare(uint32_t a, uint32_t b) { return (a > b) - (a < b); }
+
+// By the variable of the last literal; then by the literals, place by place, a clause that is the start of another first.
+static int compare_clauses(const void *first, const void *second) {
+    const struct clause *a = first, *b = second;
+    int order = compare(last_variable(a), last_variable(b));
+    for (uint32_t i = 0; !order && i < a->count && i < b->count; i++) order = compare(a->literals[i], b->literals[i]);
+    return order ? order : compare(a->count, b->count);
+}
 
 bool print_cnf(struct reader log) {
-    uint32_t clauses = 0, variables = 0;
-    for (struct reader r = log; r.at < r.length;) {
-        if (!read_record(&r, &record)) return false;
+    static uint32_t literals[TOTLOG_MOST_BYTES]; // each takes a byte of the log at least, and so does each clause
+    static struct clause clauses[TOTLOG_MOST_BYTES];
+    uint32_t count = 0, used = 0, variables = 0;
+    while (log.at < log.length) {
+        if (!read_record(&log, &record)) return false;
         if (record.kind != CLAUSE) continue;
-        clauses++;
-        for (uint32_t i = 0; i < record.count; i++)
-            if (record.items[i].second / 2 >= variables) variables = record.items[i].second / 2 + 1;
-    }
-    printf("c variable x of the script and its log is x + 1 here\n");
-    printf("p cnf %u %u\n", variables, clauses);
-    while (log.at < log.length && read_record(&log, &record)) {
-        if (record.kind != CLAUSE) continue;
+        clauses[count++] = (struct clause){literals + used, record.count};
         for (uint32_t i = 0; i < record.count; i++) {
             uint32_t l = record.items[i].second;
-            printf(l % 2 ? "-%u " : "%u ", l / 2 + 1);
+            literals[used++] = l;
+            if (l / 2 >= variables) variables = l / 2 + 1;
         }
+    }
+    qsort(clauses, count, sizeof *clauses, compare_clauses);
+    printf("c variable x of the script and its log is x + 1 here\n");
+    printf("p cnf %u %u\n", variables, count);
+    for (const struct clause *c = clauses; c < clauses + count; c++) {
+        for (uint32_t i = 0; i < c->count; i++) printf(c->literals[i] % 2 ? "-%u " : "%u ", c->literals[i] / 2 + 1);
         printf("0\n");
     }
     return true;
