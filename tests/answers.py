@@ -1,4 +1,4 @@
-# The file of recorded answers (crates/replay/stdin), and the numbers of scripts and logs.
+# The file of recorded answers (crates/replay/stdin), the numbers of scripts and logs, and the clauses of a log.
 
 
 class Fault(Exception):
@@ -18,6 +18,15 @@ def number(data, at):
             return value, at + group + 1
 
 
+def coded(value):
+    """The bytes of a number."""
+    out = bytearray()
+    while value > 127:
+        out.append(value & 127 | 128)
+        value >>= 7
+    return bytes(out + bytes([value]))
+
+
 def recorded(data):
     """The cases: script, length of the log lent, the six numbers, the log up to its length."""
     count, at = number(data, 0)
@@ -32,3 +41,38 @@ def recorded(data):
         log, at = data[at : at + answer[2]], at + answer[2]
         yield script, size, answer, log
     assert at == len(data)
+
+
+def clauses(log):
+    """The literals of each clause, in log order."""
+    at = 0
+
+    def next_number():
+        nonlocal at
+        value, at = number(log, at)
+        return value
+
+    while at < len(log):
+        kind = next_number()
+        if kind in (1, 3):
+            next_number()
+        count = next_number()
+        if kind == 3:
+            yield [next_number() for _ in range(count)]
+        elif kind == 2:
+            for _ in range(count):
+                if next_number() in (0, 1, 3):
+                    next_number()
+        else:
+            for _ in range(2 * count + 1 if kind == 1 else count):
+                next_number()
+
+
+def dimacs(literals):
+    """A clause as a line of DIMACS CNF, where variable x is x + 1."""
+    return " ".join([f"{'-' if l % 2 else ''}{l // 2 + 1}" for l in literals] + ["0"])
+
+
+def in_order(clauses):
+    """By the variable of the last literal, then by the literals; Python compares lists so, place by place."""
+    return sorted(clauses, key=lambda literals: (literals[-1] // 2, literals))

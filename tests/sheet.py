@@ -5,40 +5,16 @@
 import re, subprocess, sys
 
 sys.dont_write_bytecode = True
-from answers import number, recorded
+from answers import clauses, in_order, recorded
 
 LOG = 65536
-
-
-def clauses(log):
-    at = 0
-
-    def next_number():
-        nonlocal at
-        value, at = number(log, at)
-        return value
-
-    while at < len(log):
-        kind = next_number()
-        if kind in (1, 3):
-            next_number()
-        count = next_number()
-        if kind == 3:
-            yield [next_number() for _ in range(count)]
-        elif kind == 2:
-            for _ in range(count):
-                if next_number() in (0, 1, 3):
-                    next_number()
-        else:
-            for _ in range(2 * count + 1 if kind == 1 else count):
-                next_number()
 
 
 def sheet_of(answer, log):
     refusal, place, _, steps, written, nodes = answer
     if refusal:
         return f"refused {refusal} at {place}\n"
-    lines = sorted(clauses(log), key=lambda literals: literals[-1] // 2)  # stable: equals in log order
+    lines = in_order(clauses(log))
     assert len(lines) == written
     return f"nodes {nodes} steps {steps} clauses {written}\n" + "".join(" ".join(map(str, line)) + "\n" for line in lines)
 
