@@ -176,38 +176,34 @@ module _ (p q m : ℕ) where
 -- ---- a clause as it is written
 
 module _ (t : List Node) (x : Node) (l r : Side) where
-  neg-left : (i : ℕ) → map (literalOf t x l r) (negNames L i) ≡ negPart t l i
-  unfolding literalOf numberOf negNames negPart
-  neg-left zero = refl
-  neg-left (suc i) = refl
+  -- A side, whose outputs have the names n.
+  module _ (n : ℕ → Name) (s : Side) (is : (i : ℕ) → numberOf t x l r (n i) ≡ sideLit t s i) where
+    neg-side : (i : ℕ) → map (literalOf t x l r) (negNames n i) ≡ negPart t s i
+    unfolding literalOf negNames negPart
+    neg-side zero = refl
+    neg-side (suc i) = rw (is (suc i))
 
-  neg-right : (i : ℕ) → map (literalOf t x l r) (negNames R i) ≡ negPart t r i
-  unfolding literalOf numberOf negNames negPart
-  neg-right zero = refl
-  neg-right (suc i) = refl
+    pos-side : (i : ℕ) → map (literalOf t x l r) (posNames n (sideLen t s) i) ≡ posPart t s i
+    unfolding literalOf posNames posPart
+    pos-side i = by (decLe i (sideLen t s))
+      where
+        by : (d : Dec (i ≤ sideLen t s))
+            → map (literalOf t x l r) (dite {C = List Literal} d (λ _. plain (n i) ∷ []) (λ _. [])) ≡ dite d (λ _. sideLit t s i ∷ []) (λ _. [])
+        by (yes _) = rw (is i)
+        by (no _) = refl
 
-  pos-left : (i : ℕ) → map (literalOf t x l r) (posNames L (sideLen t l) i) ≡ posPart t l i
-  unfolding literalOf numberOf posNames posPart
-  pos-left i = by (decLe i (sideLen t l))
-    where
-      by : (d : Dec (i ≤ sideLen t l))
-          → map (literalOf t x l r) (dite {C = List Literal} d (λ _. plain (L i) ∷ []) (λ _. [])) ≡ dite d (λ _. sideLit t l i ∷ []) (λ _. [])
-      by (yes _) = refl
-      by (no _) = refl
+  left-is : (i : ℕ) → numberOf t x l r (L i) ≡ sideLit t l i
+  unfolding numberOf
+  left-is i = refl
 
-  pos-right : (i : ℕ) → map (literalOf t x l r) (posNames R (sideLen t r) i) ≡ posPart t r i
-  unfolding literalOf numberOf posNames posPart
-  pos-right i = by (decLe i (sideLen t r))
-    where
-      by : (d : Dec (i ≤ sideLen t r))
-          → map (literalOf t x l r) (dite {C = List Literal} d (λ _. plain (R i) ∷ []) (λ _. [])) ≡ dite d (λ _. sideLit t r i ∷ []) (λ _. [])
-      by (yes _) = refl
-      by (no _) = refl
+  right-is : (i : ℕ) → numberOf t x l r (R i) ≡ sideLit t r i
+  unfolding numberOf
+  right-is i = refl
 
   if-numbers : (α β v : ℕ) → map (literalOf t x l r) (ifNames α β v) ≡ negPart t l α ++ negPart t r β ++ (output x v ∷ [])
   unfolding ifNames literalOf numberOf
   if-numbers α β v =
-      rw (map-append (literalOf t x l r) (negNames L α), map-append (literalOf t x l r) (negNames R β), neg-left α, neg-right β)
+      rw (map-append (literalOf t x l r) (negNames L α), map-append (literalOf t x l r) (negNames R β), neg-side L l left-is α, neg-side R r right-is β)
       (sym (append-assoc (negPart t l α) (negPart t r β) (output x v ∷ [])))
 
   only-if-numbers : (α β v : ℕ) → map (literalOf t x l r) (onlyIfNames (sideLen t l) (sideLen t r) α β v) ≡
@@ -217,8 +213,8 @@ module _ (t : List Node) (x : Node) (l r : Side) where
       rw (
         map-append (literalOf t x l r) (posNames L (sideLen t l) (suc α)),
         map-append (literalOf t x l r) (posNames R (sideLen t r) (suc β)),
-        pos-left (suc α),
-        pos-right (suc β),
+        pos-side L l left-is (suc α),
+        pos-side R r right-is (suc β),
       )
       (sym (append-assoc (posPart t l (suc α)) (posPart t r (suc β)) (neg (output x v) ∷ [])))
 

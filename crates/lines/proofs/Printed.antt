@@ -10,7 +10,7 @@ use Rattle.demands.proofs.Holds.{some-holds}
 use Rattle.order.specs.Order.{before, sortBy}
 use Rattle.order.proofs.Precedes.{sort-ascending, ascending-only}
 use Rattle.order.proofs.Sort.{sort-perm}
-use Rattle.lines.specs.Printed.{Printed}
+use Rattle.lines.specs.Printed.{Printed, Shows}
 use Rattle.lines.specs.Sheet.{refusal, sheetOf, sheet}
 use Rattle.lines.proofs.Played.{held-log, clauses-in}
 
@@ -28,7 +28,7 @@ module _ (script : List ℕ) where
         only = ascending-only (clauses rs);
       }
 
-  pub printed : played script mostBytes .number ≡ 0 → (rs : List Record) × Holds (played script mostBytes) rs × Printed script rs
+  pub printed : played script mostBytes .number ≡ 0 → Shows script
   printed e = let d = some-holds script mostBytes in (d .0, d .1, printed-of (d .0) e (d .1))
 
   pub refused : (n : ℕ) → played script mostBytes .number ≡ suc n → sheet script ≡ refusal (suc n) (played script mostBytes .place)

@@ -22,7 +22,7 @@ same-sheets bs ds h cs es i j k =
     let b = printed-of ds (m .others) (k .accepted-both .1) (m .holds .1) in
     let lines = b .only (a .lines) (Perm·trans (a .each-as-often) (m .matching .clauses-match)) (a .ascending) in
     let e = m .matching .answers-match in
-    a .is ∙ rw (e .0, e .1, e .2, lines) (sym (b .is))
+    (a .is ∙ rw (e .0, e .1, e .2, lines) (sym (b .is)), (m .records, m .holds .0, a), (m .others, m .holds .1, b))
 
 -- The bytes counted are the sheet's, as far as the slice reaches.
 written : {script out text : List ℕ} {n : ℕ} → Wrote script out n text → take n text ≡ take (length out) (sheet script)
@@ -35,7 +35,7 @@ written {script} {out} {text} {n} w =
 pub same-written : SameWritten
 unfolding SameWritten SameSheets
 same-written bs ds h cs es i j k out other n m text next e w v =
-    let s = same-sheets bs ds h cs es i j k in
+    let s = same-sheets bs ds h cs es i j k .0 in
     (w .count ∙ rw (s, e) (sym (v .count)), written w ∙ rw (s, e) (sym (written v)))
 
 -- ---- two scripts of demand 3's worked cases
@@ -55,4 +55,4 @@ both = record { one-head = alike .one-head; accepted-both = (refl, refl); same-m
 
 pub worked : sheet first ≡ sheet second
 unfolding SameSheets
-worked = same-sheets first second head first-commands second-commands first-bytes second-bytes both
+worked = same-sheets first second head first-commands second-commands first-bytes second-bytes both .0

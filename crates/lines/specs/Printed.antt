@@ -4,6 +4,7 @@ use mathlib.Core.List.{List, _++_, flatMap, Perm}
 use Prim.Native.Nat.{ℕ}
 use Rattle.record.specs.Record.{Record, clauses}
 use Rattle.player.specs.Player.{played, mostBytes}
+use Rattle.demands.specs.Demands.{Holds}
 use Rattle.order.specs.Order.{Ascending}
 use Rattle.listing.specs.Line.{line}
 use Rattle.lines.specs.Sheet.{headerOf, sheet}
@@ -16,3 +17,7 @@ pub record Printed (script : List ℕ) (rs : List Record) : Type 0 where
   pub ascending : Ascending lines
   -- nothing is left to log order
   pub only : (ls : List (List ℕ)) → Perm ls (clauses rs) → Ascending ls → ls ≡ lines
+
+-- It shows the records that the log reads back as.
+abbrev pub Shows : List ℕ → Type 0
+Shows script = (rs : List Record) × Holds (played script mostBytes) rs × Printed script rs

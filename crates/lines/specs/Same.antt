@@ -9,6 +9,7 @@ use Rattle.cert.specs.State.{Head}
 use Rattle.player.specs.Player.{played, mostBytes}
 use Rattle.player.specs.declared.Command.{Command}
 use Rattle.demands.specs.Demands.{Alike}
+use Rattle.lines.specs.Printed.{Shows}
 use Rattle.lines.specs.Sheet.{sheet, Wrote}
 
 -- Every two scripts of bytes that demand 3 is about, each played with the sheet's log.
@@ -16,8 +17,9 @@ abbrev pub EveryTwo : (List ℕ → List ℕ → Type 0) → Type 0
 EveryTwo P =
     (bs ds : List ℕ) (h : Head) (cs es : List Command) → Bytes bs → Bytes ds → Alike bs ds (played bs mostBytes) (played ds mostBytes) h cs es → P bs ds
 
+-- One sheet, which shows the clauses of both logs.
 unfoldable pub SameSheets : Type 0
-SameSheets = EveryTwo (λ bs ds. sheet bs ≡ sheet ds)
+SameSheets = EveryTwo (λ bs ds. (sheet bs ≡ sheet ds) × Shows bs × Shows ds)
 
 -- Into slices of one length, whatever they held, as many bytes are written, and the same.
 unfoldable pub SameWritten : Type 0

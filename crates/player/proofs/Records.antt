@@ -11,7 +11,7 @@ use Rattle.record.specs.Record.{Record, derivation, clause, deletion}
 use Rattle.record.specs.Steps.{stepOf}
 use Rattle.record.specs.Written.{WrittenFor, EachFor, Closed, Ended}
 use Rattle.player.specs.Formed.{Sound}
-use Rattle.record.proofs.Groups.{Grouped, grouped-done, grouped-deletion, grouped-append, grouped-deletions, grouped-each, grouped-after}
+use Rattle.record.proofs.Groups.{Grouped, grouped-done, grouped-deletion, grouped-append, grouped-deletions, grouped-each, grouped-follows}
 use Rattle.record.proofs.Closes.{grouped-closed}
 use Rattle.record.proofs.Steps.{step-derivation}
 use Rattle.totdb.specs.Nodes.{Node, any, known, leaf, joined, len}
@@ -156,16 +156,12 @@ script-last bs h cs e = let r = head-read bs h cs e in rw (r .rest) at (commands
 module _ (h : Head) (capacity : ℕ) (cs : List Command) (u : State) (a : AllPassed h capacity cs (start h) u) where
   pub clauses-for : (n : ℕ) (ls : List ℕ) → List·Memᴰ (clause n ls) (u .log) → WrittenFor (h .step) (u .log) n ls
   clauses-for n ls m =
-      let k = grouped-after (all-laid a .1 .grouped) n ls m in
+      let k = grouped-follows (all-laid a .1 .grouped) n ls m in
+      let s = k .step in
       record {
-        pre = k .pre;
-        post = k .post;
-        tokens = k .tokens;
-        place = k .place;
-        number = k .number;
-        worked-out = ap (λ (rs : List Record). stepOf (h .step) rs n) (k .place)
-            ∙ ap (stepOf (h .step) (k .pre ++ (derivation (k .tokens) ∷ clause n ls ∷ k .post))) (k .number)
-            ∙ step-derivation (h .step) (k .pre) (clause n ls ∷ k .post) (k .tokens);
+        follows = k;
+        worked-out = ap (λ (rs : List Record). stepOf (h .step) rs n) (s .place)
+            ∙ ap (stepOf (h .step) (s .pre ++ (derivation (k .tokens) ∷ s .post))) (s .number) ∙ step-derivation (h .step) (s .pre) (s .post) (k .tokens);
         comes-to = clause-steps h capacity cs u a n ls m;
       }
 

@@ -11,7 +11,7 @@ use Rattle.pb.specs.Rules.{Token}
 use Rattle.pb.specs.Sum.{Term}
 use Rattle.record.specs.Record.{Record, sum, derivation, clause, deletion, steps}
 use Rattle.record.specs.Steps.{names}
-use Rattle.record.specs.Written.{StepIs, Defines, by-sum, by-derivation, ClauseNext, EachFor, deletions, Ascending}
+use Rattle.record.specs.Written.{StepIs, Defines, by-sum, by-derivation, Follows, ClauseNext, EachFor, deletions, Ascending}
 
 -- From step n on: the steps that define a sum are ss, and the deletions ds.
 pub data Grouped : ℕ → List Record → List ℕ → List (List ℕ) → Type 0 where
@@ -98,7 +98,7 @@ names-own n ls rs = rw (eq-eqb n n refl)
 
 module _ {n : ℕ} {r : Record} {rs : List Record} {m : ℕ} {x : Record} where
   -- A step of the records after r.
-  step-after : StepIs (n + steps (r ∷ [])) rs m x → StepIs n (r ∷ rs) m x
+  unfoldable step-after : StepIs (n + steps (r ∷ [])) rs m x → StepIs n (r ∷ rs) m x
   step-after s = record {
     pre = r ∷ s .pre;
     post = s .post;
@@ -216,52 +216,40 @@ grouped-each {n} (grouped-deletion g) m ks s =
     ⊎-elim (λ k. absurd (let e = k .0 in let z : _≡_ {A = ℕ} 0 1 = cc in omega arith))
     (λ q. each-after s (q .0) (q .1) refl (each-from (n + 0) (omega arith) (grouped-each g) m ks (q .0))) (step-split s)
 
--- A clause stands after the derivation of the step that it names.
-pub record After (first : ℕ) (rs : List Record) (n : ℕ) (ls : List ℕ) : Type 0 where
-  pub pre : List Record
-  pub post : List Record
-  pub tokens : List Token
-  pub place : rs ≡ pre ++ (derivation tokens ∷ clause n ls ∷ post)
-  pub number : n ≡ first + steps pre
+-- ---- a clause and the derivation of the step that it names
 
-after-more : {n m : ℕ} {r : Record} {rs : List Record} {ls : List ℕ} → After (n + steps (r ∷ [])) rs m ls → After n (r ∷ rs) m ls
-after-more {r = r} a = record {
-  pre = r ∷ a .pre;
-  post = a .post;
-  tokens = a .tokens;
-  place = ap {B = List Record} (λ (l : List Record). r ∷ l) (a .place);
-  number = omega (arith, a .number, steps-cons r (a .pre));
-}
+follows-more : {n m : ℕ} {r : Record} {rs : List Record} {ls : List ℕ} → Follows (n + steps (r ∷ [])) rs m ls → Follows n (r ∷ rs) m ls
+unfolding step-after
+follows-more f = record { tokens = f .tokens; step = step-after (f .step); rest = f .rest; next = f .next }
 
-after-from : {n m : ℕ} {rs : List Record} {ls : List ℕ} (k : ℕ) → n ≡ k → After n rs m ls → After k rs m ls
-after-from {m = m} {rs = rs} {ls = ls} k e a = subst (λ (i : ℕ). After i rs m ls) e a
+follows-from : {n m : ℕ} {rs : List Record} {ls : List ℕ} (k : ℕ) → n ≡ k → Follows n rs m ls → Follows k rs m ls
+follows-from {m = m} {rs = rs} {ls = ls} k e f = subst (λ (i : ℕ). Follows i rs m ls) e f
 
-pub grouped-after : {n : ℕ} {rs : List Record} {ss : List ℕ} {ds : List (List ℕ)} → Grouped n rs ss ds → (m : ℕ) (ls : List ℕ)
-    → List·Memᴰ (clause m ls) rs → After n rs m ls
+pub grouped-follows : {n : ℕ} {rs : List Record} {ss : List ℕ} {ds : List (List ℕ)} → Grouped n rs ss ds → (m : ℕ) (ls : List ℕ)
+    → List·Memᴰ (clause m ls) rs → Follows n rs m ls
 unfolding steps
-grouped-after grouped-done m ls i = absurd (List·Memᴰ·not-nil i)
-grouped-after {n} (grouped-sum g) m ls i =
+grouped-follows grouped-done m ls i = absurd (List·Memᴰ·not-nil i)
+grouped-follows {n} (grouped-sum g) m ls i =
     ⊎-elim (λ e. absurd (let z : _≡_ {A = ℕ} 0 1 = cc in omega arith))
-    (λ j. after-more (after-from (n + 1) (omega arith) (grouped-after g m ls j))) (List·Memᴰ·cases-cons i)
-grouped-after {n} (grouped-derivation g) m ls i =
+    (λ j. follows-more (follows-from (n + 1) (omega arith) (grouped-follows g m ls j))) (List·Memᴰ·cases-cons i)
+grouped-follows {n} (grouped-derivation g) m ls i =
     ⊎-elim (λ e. absurd (let z : _≡_ {A = ℕ} 0 1 = cc in omega arith))
-    (λ j. after-more (after-from (n + 1) (omega arith) (grouped-after g m ls j))) (List·Memᴰ·cases-cons i)
-grouped-after {n} (grouped-clause {ks = ks} {ls = js} {rs = rs} g) m ls i =
+    (λ j. follows-more (follows-from (n + 1) (omega arith) (grouped-follows g m ls j))) (List·Memᴰ·cases-cons i)
+grouped-follows {n} (grouped-clause {ks = ks} {ls = js} {rs = rs} g) m ls i =
     ⊎-elim (λ e. absurd (let z : _≡_ {A = ℕ} 0 1 = cc in omega arith))
-    (λ j. ⊎-elim here (λ k. after-more (after-more (after-from (n + 1 + 0) (omega arith) (grouped-after g m ls k)))) (List·Memᴰ·cases-cons j))
+    (λ j. ⊎-elim here (λ k. follows-more (follows-more (follows-from (n + 1 + 0) (omega arith) (grouped-follows g m ls k)))) (List·Memᴰ·cases-cons j))
     (List·Memᴰ·cases-cons i)
   where
-    here : clause m ls ≡ clause n js → After n (derivation ks ∷ clause n js ∷ rs) m ls
+    here : clause m ls ≡ clause n js → Follows n (derivation ks ∷ clause n js ∷ rs) m ls
     here e =
         let p : m ≡ n = cc in
         let f : clause n js ≡ clause m ls = sym e in
         record {
-          pre = [];
-          post = rs;
           tokens = ks;
-          place = ap {B = List Record} (λ (r : Record). derivation ks ∷ r ∷ rs) f;
-          number = omega arith;
+          step = record { pre = []; post = clause n js ∷ rs; place = refl; number = omega arith };
+          rest = rs;
+          next = ap {B = List Record} (λ (r : Record). r ∷ rs) f;
         }
-grouped-after {n} (grouped-deletion g) m ls i =
+grouped-follows {n} (grouped-deletion g) m ls i =
     ⊎-elim (λ e. absurd (let z : _≡_ {A = ℕ} 0 1 = cc in omega arith))
-    (λ j. after-more (after-from (n + 0) (omega arith) (grouped-after g m ls j))) (List·Memᴰ·cases-cons i)
+    (λ j. follows-more (follows-from (n + 0) (omega arith) (grouped-follows g m ls j))) (List·Memᴰ·cases-cons i)

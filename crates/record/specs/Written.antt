@@ -26,14 +26,17 @@ pub data Defines (first : ℕ) (rs : List Record) (n : ℕ) : Type 0 where
 
 -- ---- a clause and its derivation
 
--- The clause ls, which names step n, stands after a derivation, that of step n. Worked out from the steps before it, this comes to the clause.
-pub record WrittenFor (first : ℕ) (rs : List Record) (n : ℕ) (ls : List ℕ) : Type 0 where
-  pub pre : List Record
-  pub post : List Record
+-- The clause ls, which names step n, stands directly after a derivation, that of step n.
+pub record Follows (first : ℕ) (rs : List Record) (n : ℕ) (ls : List ℕ) : Type 0 where
   pub tokens : List Token
-  pub place : rs ≡ pre ++ (derivation tokens ∷ clause n ls ∷ post)
-  pub number : n ≡ first + steps pre
-  pub worked-out : stepOf first rs n ≡ evaluate (stepOf first pre) tokens
+  pub step : StepIs first rs n (derivation tokens)
+  pub rest : List Record
+  pub next : step .post ≡ clause n ls ∷ rest
+
+-- Worked out from the steps before it, this derivation comes to the clause.
+pub record WrittenFor (first : ℕ) (rs : List Record) (n : ℕ) (ls : List ℕ) : Type 0 where
+  pub follows : Follows first rs n ls
+  pub worked-out : stepOf first rs n ≡ evaluate (stepOf first (follows .step .pre)) (follows .tokens)
   pub comes-to : stepOf first rs n ≡ some (normal (clauseSum ls))
 
 -- The records begin with a clause that names step n.

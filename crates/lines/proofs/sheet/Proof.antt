@@ -21,7 +21,7 @@ same-length c = search needs
 returns : tie.Need-returns
 returns c =
     let p = c .before .before .before .before .before .before .before .play-into .ensures in
-    let t = on-front (refusal-printed (c .before .before .before .before .before .before .before .before .before .before .before .args .script .now) (p .0) (p .1) (c .before .before .refusal .ensures) (omega arith) (omega arith) (c .before .before .before .before .if1 .taken)) in
+    let t = on-front (refusal-printed (c .before .before .before .before .before .before .before .before .before .before .before .args .script .now) (p .0) (p .1) (c .before .before .refusal .ensures) (omega arith) (omega arith) (λ e. omega (arith, e, c .before .before .before .before .if1 .taken))) in
     record { count = t .1; bytes = t .0 }
 
 header-requires : tie.Need-header-requires
@@ -31,7 +31,7 @@ cast-used : tie.Need-cast-used
 cast-used c = search needs
 
 array-share-prefix-log : tie.Need-array-share-prefix-log
-array-share-prefix-log c = let p = c .before .before .before .before .before .before .before .before .play-into .ensures in used-within (c .before .before .before .before .before .before .before .before .before .before .before .before .args .script .now) (p .0) (p .1)
+array-share-prefix-log c = let p = c .before .before .before .before .before .before .before .before .play-into .ensures in omega (arith, used-within (c .before .before .before .before .before .before .before .before .before .before .before .before .args .script .now) (p .0) (p .1))
 
 slice-aggregate-all-lines : tie.Need-slice-aggregate-all-lines
 slice-aggregate-all-lines c = let p = c .before .before .before .before .before .before .before .before .before .play-into .ensures in cut-length (c .before .before .before .before .before .before .before .before .before .before .before .before .before .args .script .now) (p .0) (p .1)
@@ -45,7 +45,7 @@ same-length-2 c = search needs
 returns-2 : tie.Need-returns-2
 returns-2 c =
     let p = c .before .before .before .before .before .before .before .before .before .before .before .before .before .play-into .ensures in
-    let t = on-front (sheet-printed (c .before .before .before .before .before .before .before .before .before .before .before .before .before .before .before .before .before .args .script .now) (p .0) (p .1) (c .before .before .before .before .before .before .before .before .header .ensures) (c .before .before .all-lines .ensures) (omega arith) (omega arith) (omega arith) (c .before .before .before .before .before .before .before .before .before .before .if1 .left)) in
+    let t = on-front (sheet-printed (c .before .before .before .before .before .before .before .before .before .before .before .before .before .before .before .before .before .args .script .now) (p .0) (p .1) (c .before .before .before .before .before .before .before .before .header .ensures) (c .before .before .all-lines .ensures) (omega arith) (omega arith) (omega arith) (omega (arith, c .before .before .before .before .before .before .before .before .before .before .if1 .left))) in
     record { count = t .1; bytes = t .0 }
 
 pub sheet-spec : {M : Type 1} → statement M

@@ -15,7 +15,7 @@ number-at-requires c κs = search needs
 returns : tie.Need-returns
 returns c =
     let a = c .before .before .before .before .before .args in
-    let e = clause-not (a .log .now) (a .at) (c .before .before .number-at .ensures) (c .if1 .taken) in
+    let e = clause-not (a .log .now) (a .at) (c .before .before .number-at .ensures) (λ e. omega (arith, e, c .if1 .taken)) in
     (rw e, rw (e, append-nil (take (a .n) (a .places .now))))
 
 number-at-requires-2 : tie.Need-number-at-requires-2
@@ -43,7 +43,7 @@ returns-2 : tie.Need-returns-2
 returns-2 c =
     let enter = c .before .before .before .before .before .before .before in
     let a = enter .args in
-    let e = clause-here (a .log .now) (a .at) (c .before .before .before .before .number-at .ensures) (c .before .before .if1 .left) in
+    let e = clause-here (a .log .now) (a .at) (c .before .before .before .before .number-at .ensures) (omega (arith, c .before .before .if1 .left)) in
     let q = count-here (a .log .now) (a .at) (c .before .before .before .before .number-at .ensures) (c .before .number-at2 .ensures) in
     (rw e, rw (add-one, take-suc-set (a .places .now) (a .n) (c .before .number-at2 .result .end) (enter .pre .1), e, q))
 
