@@ -83,24 +83,24 @@ counted-define h t k s i c = record {
       (unfold define in omega (arith, c .count, steps-append (s .log) (keyRecords (stepIn (s .stored)) t k), key-count (stepIn (s .stored)) t k));
 }
 
-write-steps : (c : Clause) (s : State) → steps (write c s .log) ≡ steps (s .log) + 1
+write-steps : (t : List Node) (c : Clause) (s : State) → steps (write t c s .log) ≡ steps (s .log) + 1
 unfolding write
-write-steps c s = steps-append (s .log) (derivation (clauseTokens (stepIn (s .stored)) c) ∷ clause (s .next-step) (c .literals) ∷ [])
+write-steps t c s = steps-append (s .log) (derivation (clauseTokens (stepIn (s .stored)) t c) ∷ clause (s .next-step) (c .literals) ∷ [])
     ∙ (unfold steps in refl)
 
-pub counted-write : (h : Head) (t : List Node) (c : Clause) (s : State) → CountedIn h t s → CountedIn h t (write c s)
+pub counted-write : (h : Head) (t : List Node) (c : Clause) (s : State) → CountedIn h t s → CountedIn h t (write t c s)
 counted-write h t c s k = record {
-  next = omega (arith, write-steps c s, k .next, write-next c s);
+  next = omega (arith, write-steps t c s, k .next, write-next);
   keys-in = unfold write keys in k .keys-in;
-  count = rw (write-clauses c s, length-append (clauses (s .log)) (c .literals ∷ []))
-      (omega (arith, write-steps c s, k .count, ap (λ (l : List Key). length (flatMap (definedBy t) l)) (write-keys-same c s)));
+  count = rw (write-clauses t c s, length-append (clauses (s .log)) (c .literals ∷ []))
+      (omega (arith, write-steps t c s, k .count, ap (λ (l : List Key). length (flatMap (definedBy t) l)) write-keys-same));
 }
   where
-    write-next : (c : Clause) (s : State) → write c s .next-step ≡ s .next-step + 1
-    write-next c s = unfold write in refl
+    write-next : write t c s .next-step ≡ s .next-step + 1
+    write-next = unfold write in refl
 
-    write-keys-same : (c : Clause) (s : State) → keys (write c s) ≡ keys s
-    write-keys-same c s = unfold write keys in refl
+    write-keys-same : keys (write t c s) ≡ keys s
+    write-keys-same = unfold write keys in refl
 
 pub counted-hold : (h : Head) (t : List Node) (x : Request) (s : State) → CountedIn h t s → CountedIn h t (hold x s)
 counted-hold h t x s r = record { next = unfold hold in r .next; keys-in = unfold hold keys in r .keys-in; count = unfold hold keys in r .count }

@@ -2,14 +2,15 @@
 use mathlib.Core.Path.{_≡_, refl, ap, _∙_}
 use mathlib.Core.Bool.{Bool, true, false, true≢false}
 use mathlib.Core.Logic.{dite}
-use mathlib.Core.List.{List}
+use mathlib.Core.List.{List, [], _∷_}
 use Prim.Native.Nat.{ℕ, zero, suc, _+_, _-_, _*_, _≤_, _<_}
 use native.Mathlib.Decide.{decLe}
 use native.Mathlib.Omega.{arith}
 use Rattle.totdb.specs.Nodes.{Node, sideLen, sideLit, plainOr, keyed}
 use Rattle.totdb.specs.declared.Side.{Side}
 use Rattle.totdb.proofs.Sides.{keyed-zero, keyed-above, plain-zero, window-more, plain-keyed}
-use Rattle.cert.specs.Definitions.{Direction, Definition, if, only-if, window, stored, lacking, oneDef, realDef, windowDef, longDef, sideDef}
+use Rattle.cert.specs.Definitions.{Direction, Definition, if, only-if, real, window, stored, oneDef, realDef, windowDef, longDef, sideDef}
+use Rattle.cert.specs.Requests.{keyOf}
 
 -- The key v of the i-th value above the offset f: 0 at the offset, else the node's value.
 pub record KeyOf (f i v : ℕ) : Type 0 where
@@ -26,13 +27,13 @@ key-most (suc i) k = omega (arith, k .above (omega arith))
 -- ---- a side of length 1, a plain side, a window
 
 module _ (t : List Node) (s : Side) (i : ℕ) (d : Direction) where
-  pub short-side : sideLen t s ≤ 1 → sideDef t s i d ≡ oneDef (sideLit t s 1) i d
+  pub short-side : sideLen t s ≤ 1 → sideDef t s i d ≡ oneDef (sideLit t s 1) i
   unfolding sideDef
   short-side h = by (decLe (sideLen t s) 1)
     where
       by : (c : Dec (sideLen t s ≤ 1))
-          → dite c (λ _. oneDef (sideLit t s 1) i d) (λ _. longDef (sideLen t s) (s .node) (s .offset) (s .limit) (keyed s i) d)
-          ≡ oneDef (sideLit t s 1) i d
+          → dite c (λ _. oneDef (sideLit t s 1) i) (λ _. longDef (sideLen t s) (s .node) (s .offset) (s .limit) (keyed s i) d)
+          ≡ oneDef (sideLit t s 1) i
       by (yes p) = refl
       by (no p) = absurd (p h)
 
@@ -41,12 +42,12 @@ module _ (t : List Node) (s : Side) (i : ℕ) (d : Direction) where
   long-side h = by (decLe (sideLen t s) 1)
     where
       by : (c : Dec (sideLen t s ≤ 1))
-          → dite c (λ _. oneDef (sideLit t s 1) i d) (λ _. longDef (sideLen t s) (s .node) (s .offset) (s .limit) (keyed s i) d)
+          → dite c (λ _. oneDef (sideLit t s 1) i) (λ _. longDef (sideLen t s) (s .node) (s .offset) (s .limit) (keyed s i) d)
           ≡ longDef (sideLen t s) (s .node) (s .offset) (s .limit) (keyed s i) d
       by (yes p) = absurd (omega arith)
       by (no p) = refl
 
-  pub plain-side : 1 < sideLen t s → plainOr (s .offset) (s .limit) true false ≡ true → sideDef t s i d ≡ realDef (sideLen t s) (s .node) i d
+  pub plain-side : 1 < sideLen t s → plainOr (s .offset) (s .limit) true false ≡ true → sideDef t s i d ≡ realDef (s .node) i d
   plain-side h p =
       let z = plain-zero (s .offset) (s .limit) p in
       long-side h ∙ (unfold longDef plainOr in rw (plain-keyed s p i, z .0, z .1))
@@ -64,8 +65,8 @@ module _ (t : List Node) (s : Side) (i : ℕ) (d : Direction) where
 
 -- What holds of each of the three holds of every side.
 pub by-form : (P : Definition → Type 0) (t : List Node) (s : Side) (i : ℕ) (d : Direction)
-    → (sideLen t s ≤ 1 → P (oneDef (sideLit t s 1) i d))
-    → (1 < sideLen t s → s .offset ≡ 0 → s .limit ≡ 0 → P (realDef (sideLen t s) (s .node) i d))
+    → (sideLen t s ≤ 1 → P (oneDef (sideLit t s 1) i))
+    → (1 < sideLen t s → s .offset ≡ 0 → s .limit ≡ 0 → P (realDef (s .node) i d))
     → (1 < sideLen t s → 0 < s .offset + s .limit → (v : ℕ) → KeyOf (s .offset) i v → P (windowDef (s .node) (s .offset) (sideLen t s) v d))
     → P (sideDef t s i d)
 by-form P t s i d one plain win = by (decLe (sideLen t s) 1)
@@ -93,11 +94,27 @@ module _ (n f m : ℕ) where
   if-above i zero k = absurd (omega (arith, k .above (omega arith)))
   if-above i (suc v) k = ap (λ (p : ℕ). stored (window n f m) p) (omega (arith, k .above (omega arith)))
 
-  pub only-if-above : (i v : ℕ) → KeyOf f (suc i) v → suc i ≤ m → windowDef n f m v only-if ≡ stored (window n f m) (2 * i + 2)
+  pub only-if-above : (i v : ℕ) → KeyOf f (suc i) v → windowDef n f m v only-if ≡ stored (window n f m) (2 * i + 2)
   unfolding windowDef
-  only-if-above i zero k h = absurd (omega (arith, k .above (omega arith)))
-  only-if-above i (suc v) k h = by (decLe (suc v) (f + m))
-    where
-      by : (c : Dec (suc v ≤ f + m)) → dite c (λ _. stored (window n f m) (2 * (v - f) + 2)) (λ _. lacking) ≡ stored (window n f m) (2 * i + 2)
-      by (yes p) = ap (λ (p : ℕ). stored (window n f m) p) (omega (arith, k .above (omega arith)))
-      by (no p) = absurd (p (omega (arith, k .above (omega arith))))
+  only-if-above i zero k = absurd (omega (arith, k .above (omega arith)))
+  only-if-above i (suc v) k = ap (λ (p : ℕ). stored (window n f m) p) (omega (arith, k .above (omega arith)))
+
+-- ---- the key of a definition, whatever its direction
+
+pub no-key : (o i : ℕ) → keyOf (oneDef o i) ≡ []
+unfolding oneDef keyOf
+no-key o zero = refl
+no-key o (suc zero) = refl
+no-key o (suc (suc i)) = refl
+
+pub real-key : (n v : ℕ) (d : Direction) → keyOf (realDef n v d) ≡ real n v ∷ []
+unfolding realDef keyOf
+real-key n zero d = refl
+real-key n (suc v) if = refl
+real-key n (suc v) only-if = refl
+
+pub window-key : (n f m v : ℕ) (d : Direction) → keyOf (windowDef n f m v d) ≡ window n f m ∷ []
+unfolding windowDef keyOf
+window-key n f m zero d = refl
+window-key n f m (suc v) if = refl
+window-key n f m (suc v) only-if = refl

@@ -12,6 +12,7 @@ pub mod Pulls
 pub mod Tables
 pub mod Distinct
 pub mod Fits
+pub mod Available
 pub mod Serving
 pub mod Counts
 pub mod Shapes

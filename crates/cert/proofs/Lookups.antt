@@ -1,23 +1,24 @@
 -- The definitions that document 01 lists for the clauses of a request are those that the player looks up, with all that they pull in.
-use mathlib.Core.Path.{_≡_, refl, sym, ap, subst}
-use mathlib.Core.Logic.{_⊎_, inl, inr, ⊎-elim, dite, ite}
+use mathlib.Core.Path.{_≡_, refl, sym, ap, subst, _∙_}
+use mathlib.Core.Logic.{_⊎_, inl, inr, ⊎-elim, ite}
 use mathlib.Core.List.{List, [], _∷_, _++_, map, flatMap, List·Memᴰ, List·Memᴰ·head, List·Memᴰ·tail, List·Memᴰ·not-nil, List·Memᴰ·cases-cons, List·Memᴰ·append-cases, List·Memᴰ·eq-of-singleton, Memᴰ·append-left, Memᴰ·append-right, Memᴰ·cast, Memᴰ·map, Memᴰ·of-map}
-use Prim.Native.Nat.{ℕ, zero, suc, _+_, _-_, _*_, _≤_, _<_}
-use native.Mathlib.Decide.{decLe, ℕ-discrete}
+use Prim.Native.Nat.{ℕ, zero, suc, _+_, _-_, _≤_, _<_}
+use native.Mathlib.Decide.{ℕ-discrete}
 use native.Mathlib.Omega.{arith}
 use Rattle.memo.specs.Closure.{From, Reach, reach-here, reach-down}
-use Rattle.memo.proofs.Lists.{flatMap-map}
-use Rattle.totdb.specs.Nodes.{Node, leaf, join, at, len, range, sideLen, sideLit, plainOr}
+use Rattle.memo.proofs.Lists.{flatMap-map, map-twice}
+use Rattle.totdb.specs.Nodes.{Node, leaf, join, at, range, sideLen, sideLit, plainOr}
 use Rattle.totdb.specs.declared.Side.{Side}
-use Rattle.cert.specs.Definitions.{Direction, if, only-if, Key, real, window, Definition, stored, lacking, oneDef, realDef, windowDef, sideDef, pulls}
-use Rattle.cert.specs.Lookups.{windowKeys, sideKeys, keysAt, keysOf}
-use Rattle.cert.specs.Requests.{Request, request, splits, Clause, keyOf, looksOf, ifClause, onlyIfClause, clausesAt, clausesOf, lookups, Right}
+use Rattle.cert.specs.Definitions.{Direction, if, only-if, Key, real, window, Definition, sideDef, realDef, pulls}
+use Rattle.cert.specs.Lookups.{windowKeys, sideKeys, lookupKeys, usedAt, usedBy, keysOf}
+use Rattle.cert.specs.Requests.{Request, request, splits, Lookup, of-side, of-node, Clause, definition, lookedUp, keyOf, looksOf, ifClause, onlyIfClause, clausesAt, clausesOf, lookups, Right}
 use Rattle.cert.specs.Sized.{Fit, Sized}
-use Rattle.cert.proofs.Apart.{splits-mem, range-mem, range-has}
-use Rattle.cert.proofs.Keyed.{KeyOf, by-form, only-if-zero, if-above, only-if-above}
+use Rattle.cert.proofs.Apart.{range-mem, range-has}
+use Rattle.cert.proofs.Keyed.{by-form, no-key, real-key, window-key}
 use Rattle.cert.specs.Totalizer.{pairs}
+use Rattle.cert.proofs.Rules.{ClauseForm, an-if, an-only-if, clause-form}
 use Rattle.cert.proofs.Pulls.{pulls-mem, pulls-zero, pulls-real}
-use Rattle.cert.proofs.Schema.{over-pairs}
+use Rattle.cert.proofs.Schema.{pairs-splits}
 
 -- `ks` are the keys of `xs` and all that these pull in.
 abbrev pub Covers : List Key → List Key → Type 0
@@ -34,7 +35,7 @@ covers-append {xs} {ys} {ks} {js} c d k = (
       (List·Memᴰ·append-cases ks m),
 )
 
-covers-flatMap : (f g : ℕ → List Key) (l : List ℕ) → ((a : ℕ) → List·Memᴰ a l → Covers (f a) (g a)) → Covers (flatMap f l) (flatMap g l)
+covers-flatMap : {A : Type 0} (f g : A → List Key) (l : List A) → ((a : A) → List·Memᴰ a l → Covers (f a) (g a)) → Covers (flatMap f l) (flatMap g l)
 unfolding flatMap
 covers-flatMap f g [] h = covers-nil
 covers-flatMap f g (x ∷ l) h = covers-append (h x (List·Memᴰ·head refl)) (covers-flatMap f g l (λ a m. h a (List·Memᴰ·tail m)))
@@ -101,57 +102,10 @@ covers-window n f m k = (
       (pulled-has n f m k h),
 )
 
--- ---- the key of a definition
+-- ---- the keys of a definition
 
-pub no-key : (o i : ℕ) (d : Direction) → keyOf (oneDef o i d) ≡ []
-unfolding oneDef keyOf
-no-key o zero if = refl
-no-key o zero only-if = refl
-no-key o (suc zero) d = refl
-no-key o (suc (suc i)) if = refl
-no-key o (suc (suc i)) only-if = refl
-
-pub real-only-key : (m n v : ℕ) → v ≤ m → keyOf (realDef m n v only-if) ≡ real n v ∷ []
-unfolding realDef keyOf
-real-only-key m n zero h = refl
-real-only-key m n (suc v) h = by (decLe (suc v) m)
-  where
-    by : (c : Dec (suc v ≤ m)) → keyOf (dite c (λ _. stored (real n (suc v)) 1) (λ _. lacking)) ≡ real n (suc v) ∷ []
-    by (yes e) = refl
-    by (no e) = absurd (e h)
-
-pub real-if-key : (m n v : ℕ) → 1 ≤ v → keyOf (realDef m n v if) ≡ real n v ∷ []
-unfolding realDef keyOf
-real-if-key m n zero h = absurd (omega arith)
-real-if-key m n (suc v) h = refl
-
-pub window-only-key : (n f m i v : ℕ) → KeyOf f i v → i ≤ m → keyOf (windowDef n f m v only-if) ≡ window n f m ∷ []
-unfolding keyOf
-window-only-key n f m zero v k h = rw (only-if-zero n f m v k)
-window-only-key n f m (suc i) v k h = rw (only-if-above n f m i v k h)
-
-pub window-if-key : (n f m i v : ℕ) → KeyOf f i v → 1 ≤ i → keyOf (windowDef n f m v if) ≡ window n f m ∷ []
-unfolding keyOf
-window-if-key n f m zero v k h = absurd (omega arith)
-window-if-key n f m (suc i) v k h = rw (if-above n f m i v k)
-
--- The values at which a direction has a definition, where the length is m.
-Has : Direction → ℕ → ℕ → Type 0
-Has if m i = 1 ≤ i
-Has only-if m i = i ≤ m
-
-real-key : (d : Direction) (m n v : ℕ) → Has d m v → keyOf (realDef m n v d) ≡ real n v ∷ []
-unfolding Has
-real-key if m n v h = real-if-key m n v h
-real-key only-if m n v h = real-only-key m n v h
-
-window-key : (d : Direction) (n f m i v : ℕ) → KeyOf f i v → Has d m i → keyOf (windowDef n f m v d) ≡ window n f m ∷ []
-unfolding Has
-window-key if n f m i v k h = window-if-key n f m i v k h
-window-key only-if n f m i v k h = window-only-key n f m i v k h
-
-covers-own : (d : Direction) (m n v : ℕ) → Has d m v → Covers (keyOf (realDef m n v d)) (real n v ∷ [])
-covers-own d m n v h = rw (real-key d m n v h) (covers-real n v)
+covers-own : (d : Direction) (n v : ℕ) → Covers (keyOf (realDef n v d)) (real n v ∷ [])
+covers-own d n v = rw (real-key n v d) (covers-real n v)
 
 module _ (t : List Node) (s : Side) (i : ℕ) where
   keys-short : sideLen t s ≡ 1 → sideKeys t s i ≡ []
@@ -183,42 +137,52 @@ window-or zero zero a b h = absurd (omega arith)
 window-or zero (suc k) a b h = refl
 window-or (suc f) k a b h = refl
 
-covers-side : (t : List Node) (s : Side) (i : ℕ) (d : Direction) → 1 ≤ sideLen t s → Has d (sideLen t s) i
-    → Covers (keyOf (sideDef t s i d)) (sideKeys t s i)
-covers-side t s i d some-side h =
+covers-side : (t : List Node) (s : Side) (i : ℕ) (d : Direction) → 1 ≤ sideLen t s → Covers (keyOf (sideDef t s i d)) (sideKeys t s i)
+covers-side t s i d some-side =
     by-form (λ (x : Definition). Covers (keyOf x) (sideKeys t s i)) t s i d
-    (λ l. rw (no-key (sideLit t s 1) i d, keys-short t s i (omega arith)) covers-nil)
+    (λ l. rw (no-key (sideLit t s 1) i, keys-short t s i (omega arith)) covers-nil)
     (λ l f k. rw (keys-long t s i l, plain-or (s .offset) (s .limit) (real (s .node) i ∷ []) (windowKeys (s .node) (s .offset) (sideLen t s)) f k)
-    (covers-own d (sideLen t s) (s .node) i h))
+    (covers-own d (s .node) i))
     (λ l w v k. rw (
       keys-long t s i l,
       window-or (s .offset) (s .limit) (real (s .node) i ∷ []) (windowKeys (s .node) (s .offset) (sideLen t s)) w,
-      window-key d (s .node) (s .offset) (sideLen t s) i v k h,
+      window-key (s .node) (s .offset) (sideLen t s) v d,
     ) (covers-window (s .node) (s .offset) (sideLen t s)))
 
--- ---- the keys of a request
+-- ---- the definitions and the keys of a request
 
-covers-clauses : (p q σ : ℕ) (c : ℕ → Clause) (g : ℕ × ℕ → List Key) → ((a : ℕ) → List·Memᴰ a (splits σ p q) → Covers (looksOf (c a)) (g (a, σ - a)))
-    → Covers (flatMap looksOf (map c (splits σ p q))) (flatMap g (pairs p q σ))
-covers-clauses p q σ c g h =
-    rw (flatMap-map c looksOf (splits σ p q), over-pairs p q σ g)
-    (covers-flatMap (λ (a : ℕ). looksOf (c a)) (λ (a : ℕ). g (a, σ - a)) (splits σ p q) h)
+map-pairs : {B : Type 0} (p q σ : ℕ) (f : ℕ × ℕ → B) → map f (pairs p q σ) ≡ map (λ (α : ℕ). f (α, σ - α)) (splits σ p q)
+map-pairs p q σ f = ap (map f) (pairs-splits p q σ) ∙ map-twice (λ (α : ℕ). (α, σ - α)) f (splits σ p q)
 
-pub lookups-are : (t : List Node) → Sized t → (x : Request) → Right t x → Covers (lookups t x) (keysOf t x)
-unfolding lookups clausesOf clausesAt keysOf keysAt Right Sized Fit Has looksOf ifClause onlyIfClause
-lookups-are t sz (request n v d) h = go (at t n) d v (sz n (h .0)) (h .1) (h .2)
+-- What the clauses look up is what document 01 lists.
+pub used-are : (t : List Node) (x : Request) → Right t x → map {B = List Lookup} lookedUp (clausesOf t x) ≡ usedBy t x
+unfolding clausesOf clausesAt usedBy usedAt Right ifClause onlyIfClause
+used-are t (request n v d) h = go (at t n) d v (h .1)
   where
-    go : (a : Node) (d : Direction) (v : ℕ) → Fit t n a → 1 ≤ v → v ≤ len a → Covers (flatMap looksOf (clausesAt t n a v d)) (keysAt t n a d v)
-    go (leaf a) d v fit low high = covers-nil
-    go (join ls o l r) if v fit low high =
-        covers-clauses (sideLen t l) (sideLen t r) v (ifClause t n (join ls o l r) l r v) _
-        (λ a m. let s = splits-mem v (sideLen t l) (sideLen t r) a m in
-        covers-append (covers-append (covers-side t l a only-if (fit .7) (s .1)) (covers-side t r (v - a) only-if (fit .8) (omega arith)))
-        (covers-own if (len (join ls o l r)) n v low))
-    go (join ls o l r) only-if zero fit low high = absurd (omega arith)
-    go (join ls o l r) only-if (suc σ) fit low high =
+    go : (a : Node) (d : Direction) (v : ℕ) → 1 ≤ v → map {B = List Lookup} lookedUp (clausesAt t n a v d) ≡ usedAt t n a d v
+    go (leaf a) d v low = refl
+    go (join ls o l r) if v low =
+        map-twice (ifClause t n (join ls o l r) l r v) lookedUp (splits v (sideLen t l) (sideLen t r))
+        ∙ sym (map-pairs (sideLen t l) (sideLen t r) v (λ (x : ℕ × ℕ). of-side l (x .0) only-if ∷ of-side r (x .1) only-if ∷ of-node n v if ∷ []))
+    go (join ls o l r) only-if zero low = absurd (omega arith)
+    go (join ls o l r) only-if (suc σ) low =
         let e : suc σ - 1 ≡ σ = omega arith in
-        rw e (covers-clauses (sideLen t l) (sideLen t r) σ (onlyIfClause t n (join ls o l r) l r (suc σ)) _
-        (λ a m. rw e
-        (covers-append (covers-append (covers-side t l (suc a) if (fit .7) (omega arith)) (covers-side t r (suc (σ - a)) if (fit .8) (omega arith)))
-        (covers-own only-if (len (join ls o l r)) n (suc σ) high))))
+        map-twice (onlyIfClause t n (join ls o l r) l r (suc σ)) lookedUp (splits (suc σ - 1) (sideLen t l) (sideLen t r))
+        ∙ rw e (sym (map-pairs (sideLen t l) (sideLen t r) σ
+        (λ (x : ℕ × ℕ). of-side l (suc (x .0)) if ∷ of-side r (suc (x .1)) if ∷ of-node n (suc σ) only-if ∷ [])))
+
+-- So are the keys, with all that they pull in.
+pub lookups-are : (t : List Node) → Sized t → (x : Request) → Right t x → Covers (lookups t x) (keysOf t x)
+unfolding lookups clausesOf keysOf Right Sized Fit looksOf definition lookupKeys ifClause onlyIfClause flatMap
+lookups-are t sz (request n v d) h =
+    rw (← used-are t (request n v d) h, flatMap-map lookedUp (flatMap {B = Key} (lookupKeys t)) (clausesOf t (request n v d)))
+    (covers-flatMap (looksOf t) (λ (c : Clause). flatMap {B = Key} (lookupKeys t) (lookedUp c)) (clausesOf t (request n v d))
+    (λ c m. one (sz n (h .0)) (clause-form t n v (at t n) d c m)))
+  where
+    one : {x : Node} {d : Direction} {c : Clause} → Fit t n x → ClauseForm t n v x d c → Covers (looksOf t c) (flatMap {B = Key} (lookupKeys t) (lookedUp c))
+    one fit (an-if {l = l} {r = r} a m) =
+        covers-append (covers-side t l a only-if (fit .7))
+        (covers-append (covers-side t r (v - a) only-if (fit .8)) (covers-append (covers-own if n v) covers-nil))
+    one fit (an-only-if {l = l} {r = r} a m) =
+        covers-append (covers-side t l (suc a) if (fit .7))
+        (covers-append (covers-side t r (suc (v - 1 - a)) if (fit .8)) (covers-append (covers-own only-if n v) covers-nil))

@@ -1,21 +1,20 @@
 -- The rules of requests and definitions: needs are at lower nodes, and no later node changes what a request needs, looks up and writes.
 use mathlib.Core.Path.{_≡_, refl, sym, _∙_, ap, subst}
-use mathlib.Core.Logic.{_⊎_, inl, inr, ⊎-elim, dite}
-use mathlib.Core.List.{List, [], _++_, map, flatMap, List·Memᴰ, List·Memᴰ·not-nil, List·Memᴰ·append-cases, List·Memᴰ·cases-cons, List·Memᴰ·eq-of-singleton, Memᴰ·of-map}
-use Prim.Native.Nat.{ℕ, zero, suc, _+_, _-_, _*_, _≤_, _<_}
-use native.Mathlib.Decide.{decLe}
+use mathlib.Core.Logic.{_⊎_, inl, inr, ⊎-elim}
+use mathlib.Core.List.{List, [], _∷_, _++_, map, flatMap, List·Memᴰ, List·Memᴰ·not-nil, List·Memᴰ·append-cases, List·Memᴰ·cases-cons, List·Memᴰ·eq-of-singleton, Memᴰ·of-map}
+use Prim.Native.Nat.{ℕ, zero, suc, _+_, _-_, _<_}
 use native.Mathlib.Omega.{arith}
 use lib.ListN.{length, length-append, List·getD-append}
 use Rattle.memo.proofs.Grow.{World, Grows}
-use Rattle.memo.proofs.Lists.{map-agree, of-flatMap}
+use Rattle.memo.proofs.Lists.{map-agree, flatMap-agree, of-flatMap}
 use Rattle.memo.proofs.Serve.{Falls}
-use Rattle.totdb.specs.Nodes.{Node, leaf, join, at, sideLen, sideLit, sideOutputs, outputs, range, sideLeaves, plainOr, leaves, len}
+use Rattle.totdb.specs.Nodes.{Node, leaf, join, at, sideLen, sideLit, sideOutputs, outputs, range, sideLeaves, plainOr, leaves}
 use Rattle.totdb.specs.declared.Side.{Side}
 use Rattle.cert.specs.Counted.{KeyIn, keyNode}
-use Rattle.cert.specs.Definitions.{Key, real, window-zero, window, pulls, Direction, Definition, stored, oneDef, if, only-if, lacking, realDef, windowDef, sideDef, windowReals}
+use Rattle.cert.specs.Definitions.{Key, real, window-zero, window, pulls, Direction, Definition, oneDef, if, only-if, realDef, windowDef, sideDef, windowReals}
 use Rattle.cert.specs.Equal.{keyRank}
-use Rattle.cert.specs.Requests.{Request, clausesOf, Clause, looksOf, nodeOf, needs, needsAt, below, request, named, keyOf, clausesAt, ifClause, onlyIfClause, splits, negPart, posPart, literalsOf, lookups}
-use Rattle.cert.proofs.Keyed.{by-form}
+use Rattle.cert.specs.Requests.{Request, clausesOf, Clause, definition, looksOf, nodeOf, needs, needsAt, below, request, named, keyOf, clausesAt, ifClause, onlyIfClause, splits, negPart, posPart, literalsOf, lookups}
+use Rattle.cert.proofs.Keyed.{by-form, no-key, real-key, window-key}
 
 -- A table is well made where the sides of each join are at lower nodes.
 unfoldable pub Below : ℕ → Node → Type 0
@@ -106,73 +105,65 @@ needs-more t u ok (request n v d) i = rw (← at-more t u n i) (go (at t n) (sid
 abbrev AtNode : ℕ → Definition → Type 0
 AtNode n d = (k : Key) → List·Memᴰ k (keyOf d) → keyNode k ≡ n
 
-one-node : (n : ℕ) (k : Key) (i : ℕ) → keyNode k ≡ n → AtNode n (stored k i)
-unfolding keyOf
-one-node n k i e j m = ap keyNode (List·Memᴰ·eq-of-singleton m) ∙ e
+no-node : (n : ℕ) (d : Definition) → keyOf d ≡ [] → AtNode n d
+no-node n d e k m = absurd (List·Memᴰ·not-nil (subst (List·Memᴰ k) e m))
 
-oneDef-node : (n o i : ℕ) (d : Direction) → AtNode n (oneDef o i d)
-unfolding oneDef keyOf
-oneDef-node n o zero if k m = absurd (List·Memᴰ·not-nil m)
-oneDef-node n o zero only-if k m = absurd (List·Memᴰ·not-nil m)
-oneDef-node n o (suc zero) d k m = absurd (List·Memᴰ·not-nil m)
-oneDef-node n o (suc (suc i)) if k m = absurd (List·Memᴰ·not-nil m)
-oneDef-node n o (suc (suc i)) only-if k m = absurd (List·Memᴰ·not-nil m)
+one-node : (n : ℕ) (k : Key) (d : Definition) → keyOf d ≡ k ∷ [] → keyNode k ≡ n → AtNode n d
+one-node n k d e i j m = ap keyNode (List·Memᴰ·eq-of-singleton (subst (List·Memᴰ j) e m)) ∙ i
 
-or-lacking : (n : ℕ) {P : Type 0} (c : Dec P) (e : Definition) → AtNode n e → AtNode n (dite c (λ _. e) (λ _. lacking))
-unfolding keyOf
-or-lacking n (yes p) e h = h
-or-lacking n (no p) e h = λ k m. absurd (List·Memᴰ·not-nil m)
-
-realDef-node : (m n v : ℕ) (d : Direction) → AtNode n (realDef m n v d)
-unfolding realDef keyNode keyOf
-realDef-node m n zero if = λ k m. absurd (List·Memᴰ·not-nil m)
-realDef-node m n zero only-if = one-node n (real n 0) 0 refl
-realDef-node m n (suc v) if = one-node n (real n (suc v)) 0 refl
-realDef-node m n (suc v) only-if = or-lacking n (decLe (suc v) m) (stored (real n (suc v)) 1) (one-node n (real n (suc v)) 1 refl)
-
-windowDef-node : (n f m v : ℕ) (d : Direction) → AtNode n (windowDef n f m v d)
-unfolding windowDef keyNode keyOf
-windowDef-node n f m zero if = λ k m. absurd (List·Memᴰ·not-nil m)
-windowDef-node n f m zero only-if = one-node n (window n f m) 0 refl
-windowDef-node n f m (suc v) if = one-node n (window n f m) (2 * (v - f) + 1) refl
-windowDef-node n f m (suc v) only-if =
-    or-lacking n (decLe (suc v) (f + m)) (stored (window n f m) (2 * (v - f) + 2)) (one-node n (window n f m) (2 * (v - f) + 2) refl)
+realDef-node : (n v : ℕ) (d : Direction) → AtNode n (realDef n v d)
+unfolding keyNode
+realDef-node n v d = one-node n (real n v) (realDef n v d) (real-key n v d) refl
 
 sideDef-node : (t : List Node) (s : Side) (i : ℕ) (d : Direction) → AtNode (s .node) (sideDef t s i d)
+unfolding keyNode
 sideDef-node t s i d =
-    by-form (AtNode (s .node)) t s i d (λ _. oneDef-node (s .node) (sideLit t s 1) i d) (λ _ _ _. realDef-node (sideLen t s) (s .node) i d)
-    (λ _ _ v _. windowDef-node (s .node) (s .offset) (sideLen t s) v d)
+    by-form (AtNode (s .node)) t s i d (λ _. no-node (s .node) (oneDef (sideLit t s 1) i) (no-key (sideLit t s 1) i)) (λ _ _ _. realDef-node (s .node) i d)
+    (λ _ _ v _. one-node (s .node) (window (s .node) (s .offset) (sideLen t s)) (windowDef (s .node) (s .offset) (sideLen t s) v d)
+    (window-key (s .node) (s .offset) (sideLen t s) v d) refl)
 
-pub looks-cases : (c : Clause) (k : Key) → List·Memᴰ k (looksOf c)
-    → List·Memᴰ k (keyOf (c .left)) ⊎ List·Memᴰ k (keyOf (c .right)) ⊎ List·Memᴰ k (keyOf (c .this))
-unfolding looksOf
-looks-cases c k i =
-    ⊎-elim (λ h. ⊎-elim inl (λ g. inr (inl g)) (List·Memᴰ·append-cases (keyOf (c .left)) h)) (λ h. inr (inr h))
-    (List·Memᴰ·append-cases (keyOf (c .left) ++ keyOf (c .right)) i)
+pub looks-cases : (t : List Node) (c : Clause) (k : Key) → List·Memᴰ k (looksOf t c)
+    → List·Memᴰ k (keyOf (definition t (c .left))) ⊎ List·Memᴰ k (keyOf (definition t (c .right))) ⊎ List·Memᴰ k (keyOf (definition t (c .this)))
+unfolding looksOf flatMap
+looks-cases t c k i =
+    ⊎-elim inl (λ h. inr (⊎-elim inl (λ g. inr (⊎-elim (λ m. m) (λ m. absurd (List·Memᴰ·not-nil m)) (List·Memᴰ·append-cases (keyOf (definition t (c .this))) g)))
+    (List·Memᴰ·append-cases (keyOf (definition t (c .right))) h))) (List·Memᴰ·append-cases (keyOf (definition t (c .left))) i)
 
-looks-node : (c : Clause) (a b n m : ℕ) (k : Key) → AtNode a (c .left) → AtNode b (c .right) → AtNode n (c .this) → a < m → b < m → n < m
-    → List·Memᴰ k (looksOf c) → keyNode k < m
-looks-node c a b n m k l r th ha hb hn i =
-    ⊎-elim (λ h. rw (l k h) ha) (⊎-elim (λ h. rw (r k h) hb) (λ h. rw (th k h) hn)) (looks-cases c k i)
+looks-node : (t : List Node) (c : Clause) (a b n m : ℕ) (k : Key) → AtNode a (definition t (c .left)) → AtNode b (definition t (c .right))
+    → AtNode n (definition t (c .this)) → a < m → b < m → n < m → List·Memᴰ k (looksOf t c) → keyNode k < m
+looks-node t c a b n m k l r th ha hb hn i =
+    ⊎-elim (λ h. rw (l k h) ha) (⊎-elim (λ h. rw (r k h) hb) (λ h. rw (th k h) hn)) (looks-cases t c k i)
+
+-- A clause of a request, by its direction: that of a split over the sides of a join.
+pub data ClauseForm (t : List Node) (n v : ℕ) : Node → Direction → Clause → Type 0 where
+  an-if : {ls : List ℕ} {o : ℕ} {l r : Side} (a : ℕ) → List·Memᴰ a (splits v (sideLen t l) (sideLen t r))
+      → ClauseForm t n v (join ls o l r) if (ifClause t n (join ls o l r) l r v a)
+  an-only-if : {ls : List ℕ} {o : ℕ} {l r : Side} (a : ℕ) → List·Memᴰ a (splits (v - 1) (sideLen t l) (sideLen t r))
+      → ClauseForm t n v (join ls o l r) only-if (onlyIfClause t n (join ls o l r) l r v a)
+
+pub clause-form : (t : List Node) (n v : ℕ) (x : Node) (d : Direction) (c : Clause) → List·Memᴰ c (clausesAt t n x v d) → ClauseForm t n v x d c
+unfolding clausesAt
+clause-form t n v (leaf a) d c m = absurd (List·Memᴰ·not-nil m)
+clause-form t n v (join ls o l r) if c m =
+    let j = Memᴰ·of-map (ifClause t n (join ls o l r) l r v) (splits v (sideLen t l) (sideLen t r)) m in
+    subst (ClauseForm t n v (join ls o l r) if) (j .2) (an-if (j .0) (j .1))
+clause-form t n v (join ls o l r) only-if c m =
+    let j = Memᴰ·of-map (onlyIfClause t n (join ls o l r) l r v) (splits (v - 1) (sideLen t l) (sideLen t r)) m in
+    subst (ClauseForm t n v (join ls o l r) only-if) (j .2) (an-only-if (j .0) (j .1))
 
 lookups-in : (t : List Node) → Ok t → (x : Request) (k : Key) → In t x → List·Memᴰ k (lookups t x) → KeyIn t k
-unfolding lookups In KeyIn nodeOf clausesOf clausesAt Below ifClause onlyIfClause
+unfolding lookups In KeyIn nodeOf clausesOf Below definition ifClause onlyIfClause
 lookups-in t ok (request n v d) k i m =
-    go (at t n) d (sides-in t ok n i) (of-flatMap looksOf (clausesOf t (request n v d)) m .1) (of-flatMap looksOf (clausesOf t (request n v d)) m .2)
+    let c = of-flatMap (looksOf t) (clausesOf t (request n v d)) m in
+    go (sides-in t ok n i) (clause-form t n v (at t n) d (c .0) (c .1)) (c .2)
   where
-    go : (a : Node) (d : Direction) → Below (length t) a → {c : Clause} → List·Memᴰ c (clausesAt t n a v d) → List·Memᴰ k (looksOf c)
-        → keyNode k < length t
-    go (leaf a) d b g h = absurd (List·Memᴰ·not-nil g)
-    go (join ls o l r) if b {c} g h =
-        let j = Memᴰ·of-map (ifClause t n (join ls o l r) l r v) (splits v (sideLen t l) (sideLen t r)) g in
-        looks-node (ifClause t n (join ls o l r) l r v (j .0)) (l .node) (r .node) n (length t) k (sideDef-node t l (j .0) only-if)
-        (sideDef-node t r (v - j .0) only-if) (realDef-node (len (join ls o l r)) n v if) (b .0) (b .1) i
-        (subst (λ (z : Clause). List·Memᴰ k (looksOf z)) (sym (j .2)) h)
-    go (join ls o l r) only-if b {c} g h =
-        let j = Memᴰ·of-map (onlyIfClause t n (join ls o l r) l r v) (splits (v - 1) (sideLen t l) (sideLen t r)) g in
-        looks-node (onlyIfClause t n (join ls o l r) l r v (j .0)) (l .node) (r .node) n (length t) k (sideDef-node t l (suc (j .0)) if)
-        (sideDef-node t r (suc (v - 1 - j .0)) if) (realDef-node (len (join ls o l r)) n v only-if) (b .0) (b .1) i
-        (subst (λ (z : Clause). List·Memᴰ k (looksOf z)) (sym (j .2)) h)
+    go : {x : Node} {d : Direction} {c : Clause} → Below (length t) x → ClauseForm t n v x d c → List·Memᴰ k (looksOf t c) → keyNode k < length t
+    go b (an-if {ls = ls} {o = o} {l = l} {r = r} a m) h =
+        looks-node t (ifClause t n (join ls o l r) l r v a) (l .node) (r .node) n (length t) k (sideDef-node t l a only-if)
+        (sideDef-node t r (v - a) only-if) (realDef-node n v if) (b .0) (b .1) i h
+    go b (an-only-if {ls = ls} {o = o} {l = l} {r = r} a m) h =
+        looks-node t (onlyIfClause t n (join ls o l r) l r v a) (l .node) (r .node) n (length t) k (sideDef-node t l (suc a) if)
+        (sideDef-node t r (suc (v - 1 - a)) if) (realDef-node n v only-if) (b .0) (b .1) i h
 
 -- ---- later nodes change no clause
 
@@ -193,19 +184,13 @@ ifClause-more : (t u : List Node) (n : ℕ) (x : Node) (l r : Side) (v a : ℕ) 
     → ifClause t n x l r v a ≡ ifClause (t ++ u) n x l r v a
 unfolding ifClause
 ifClause-more t u n x l r v a hl hr =
-    rw (← sideDef-more t u l a only-if hl, ← sideDef-more t u r (v - a) only-if hr, ← negPart-more t u l a hl, ← negPart-more t u r (v - a) hr)
+    rw (← negPart-more t u l a hl, ← negPart-more t u r (v - a) hr)
 
 onlyIfClause-more : (t u : List Node) (n : ℕ) (x : Node) (l r : Side) (v a : ℕ) → l .node < length t → r .node < length t
     → onlyIfClause t n x l r v a ≡ onlyIfClause (t ++ u) n x l r v a
 unfolding onlyIfClause
 onlyIfClause-more t u n x l r v a hl hr =
-    rw (
-      ← sideDef-more t u l (suc a) if hl,
-      ← sideDef-more t u r (suc (v - 1 - a)) if hr,
-      ← posPart-more t u l (suc a) hl,
-      ← posPart-more t u r
-          (suc (v - 1 - a)) hr,
-    )
+    rw (← posPart-more t u l (suc a) hl, ← posPart-more t u r (suc (v - 1 - a)) hr)
 
 pub clauses-more : (t u : List Node) → Ok t → (x : Request) → In t x → clausesOf t x ≡ clausesOf (t ++ u) x
 unfolding clausesOf In nodeOf clausesAt Below
@@ -219,6 +204,15 @@ clauses-more t u ok (request n v d) i = rw (← at-more t u n i) (go (at t n) d 
     go (join ls o l r) only-if b =
         rw (← sideLen-more t u l (b .0), ← sideLen-more t u r (b .1))
         (map-agree (splits (v - 1) (sideLen t l) (sideLen t r)) (λ a h. onlyIfClause-more t u n (join ls o l r) l r v a (b .0) (b .1)))
+
+-- Nor what it looks up.
+looks-more : (t u : List Node) → Ok t → (x : Request) → In t x → (c : Clause) → List·Memᴰ c (clausesOf t x) → looksOf t c ≡ looksOf (t ++ u) c
+unfolding clausesOf In nodeOf Below looksOf definition ifClause onlyIfClause
+looks-more t u ok (request n v d) i c m = go (sides-in t ok n i) (clause-form t n v (at t n) d c m)
+  where
+    go : {x : Node} {d : Direction} {c : Clause} → Below (length t) x → ClauseForm t n v x d c → looksOf t c ≡ looksOf (t ++ u) c
+    go b (an-if {l = l} {r = r} a m) = rw (← sideDef-more t u l a only-if (b .0), ← sideDef-more t u r (v - a) only-if (b .1))
+    go b (an-only-if {l = l} {r = r} a m) = rw (← sideDef-more t u l (suc a) if (b .0), ← sideDef-more t u r (suc (v - 1 - a)) if (b .1))
 
 pub pulls-cases : (n f m : ℕ) (j : Key) → List·Memᴰ j (pulls (window n f m)) → (j ≡ window-zero n f m) ⊎ List·Memᴰ j (windowReals n f m)
 unfolding pulls
@@ -256,7 +250,7 @@ counters-grow = record {
   lookups-in = lookups-in;
   pulls-in = λ t ok k j i m. pulls-in t k j i m .0;
   needs-more = needs-more;
-  lookups-more = λ t u ok x i. ap (flatMap looksOf) (clauses-more t u ok x i);
+  lookups-more = λ t u ok x i. flatMap-agree (clausesOf t x) (looks-more t u ok x i) ∙ ap (flatMap (looksOf (t ++ u))) (clauses-more t u ok x i);
   group-more = λ t u ok x i. ap (map {B = List ℕ} (λ (c : Clause). c .literals)) (clauses-more t u ok x i);
   pulls-more = λ t u ok k i. refl;
   sums-more = λ t u ok k i. refl;

@@ -69,9 +69,9 @@ define-held : (t : List Node) (k : Key) (s : State) → define t k s .held ≡ s
 unfolding define
 define-held t k s = refl
 
-pub write-clauses : (c : Clause) (s : State) → clauses (write c s .log) ≡ clauses (s .log) ++ (c .literals ∷ [])
+pub write-clauses : (t : List Node) (c : Clause) (s : State) → clauses (write t c s .log) ≡ clauses (s .log) ++ (c .literals ∷ [])
 unfolding write
-write-clauses c s = clauses-append (s .log) _ ∙ (unfold clauses in refl)
+write-clauses t c s = clauses-append (s .log) _ ∙ (unfold clauses in refl)
 
 -- What crate `memo` sees of a state.
 unfoldable pub view : State → Log Request Key (List ℕ) ℕ
@@ -103,14 +103,14 @@ module _ (t : List Node) where
 
   write-held : (c : Clause) (s : State) → writeClause t c s .held ≡ s .held
   unfolding writeClause write
-  write-held c s = lookUps-held (looksOf c) s
+  write-held c s = lookUps-held (looksOf t c) s
 
   writes-held : (cs : List Clause) (s : State) → each (writeClause t) cs s .held ≡ s .held
   writes-held cs s = each-still (λ (u : State). u .held) cs write-held s
 
   one-clause : (c : Clause) (s : State) → clauses (writeClause t c s .log) ≡ clauses (s .log) ++ (c .literals ∷ [])
   unfolding writeClause
-  one-clause c s = write-clauses c (each (lookUp t) (looksOf c) s) ∙ rw (lookUps-clauses (looksOf c) s)
+  one-clause c s = write-clauses t c (each (lookUp t) (looksOf t c) s) ∙ rw (lookUps-clauses (looksOf t c) s)
 
   writes-clauses : (cs : List Clause) (s : State)
       → clauses (each (writeClause t) cs s .log) ≡ clauses (s .log) ++ map {B = List ℕ} (λ (c : Clause). c .literals) cs
@@ -119,18 +119,18 @@ module _ (t : List Node) where
   writes-clauses (c ∷ cs) s = writes-clauses cs (writeClause t c s)
       ∙ rw (one-clause c s) (append-snoc (clauses (s .log)) (c .literals) (map {B = List ℕ} (λ (c : Clause). c .literals) cs))
 
-  write-keys : (c : Clause) → ((k : Key) → List·Memᴰ k (looksOf c) → KeyIn t k) → (s : State)
-      → Serves pulls (looksOf c) (keys s) (keys (writeClause t c s))
+  write-keys : (c : Clause) → ((k : Key) → List·Memᴰ k (looksOf t c) → KeyIn t k) → (s : State)
+      → Serves pulls (looksOf t c) (keys s) (keys (writeClause t c s))
   unfolding writeClause write keys
-  write-keys c g s = lookUps-serve (looksOf c) g s
+  write-keys c g s = lookUps-serve (looksOf t c) g s
 
-  writes-keys : (cs : List Clause) → ((k : Key) → List·Memᴰ k (flatMap looksOf cs) → KeyIn t k) → (s : State)
-      → Serves pulls (flatMap looksOf cs) (keys s) (keys (each (writeClause t) cs s))
+  writes-keys : (cs : List Clause) → ((k : Key) → List·Memᴰ k (flatMap (looksOf t) cs) → KeyIn t k) → (s : State)
+      → Serves pulls (flatMap (looksOf t) cs) (keys s) (keys (each (writeClause t) cs s))
   unfolding each flatMap
   writes-keys [] g s = serves-nil
   writes-keys (c ∷ cs) g s =
-      serves-then (write-keys c (λ k m. g k (Memᴰ·append-left (flatMap looksOf cs) m)) s)
-      (writes-keys cs (λ k m. g k (Memᴰ·append-right (looksOf c) m)) (writeClause t c s))
+      serves-then (write-keys c (λ k m. g k (Memᴰ·append-left (flatMap (looksOf t) cs) m)) s)
+      (writes-keys cs (λ k m. g k (Memᴰ·append-right (looksOf t c) m)) (writeClause t c s))
 
   request-held : (x : Request) (s : State) → writeRequest t x s .held ≡ s .held ++ (x ∷ [])
   unfolding writeRequest hold
@@ -171,12 +171,12 @@ module _ (t : List Node) where
 
   -- What each act keeps, a request keeps. The requests served and the keys stored are as good as those that are asked for and looked up.
   module _ (ItemGood : Request → Type 0) (KeyGood : Key → Type 0) (falls : Falls (needs t) ItemGood nodeOf) (key-falls : Falls pulls KeyGood keyRank)
-      (looked : (x : Request) (c : Clause) (k : Key) → ItemGood x → List·Memᴰ c (clausesOf t x) → List·Memᴰ k (looksOf c) → KeyGood k)
+      (looked : (x : Request) (c : Clause) (k : Key) → ItemGood x → List·Memᴰ c (clausesOf t x) → List·Memᴰ k (looksOf t c) → KeyGood k)
       (R : State → Type 0)
       (kept-define : (k : Key) (s : State) → KeyGood k → ¬ List·Memᴰ k (keys s) → ((j : Key) → List·Memᴰ j (pulls k) → List·Memᴰ j (keys s)) → R s
       → R (define t k s))
       (kept-write : (x : Request) (c : Clause) (s : State) → ItemGood x → List·Memᴰ c (clausesOf t x)
-      → ((k : Key) → List·Memᴰ k (looksOf c) → List·Memᴰ k (keys s)) → R s → R (write c s))
+      → ((k : Key) → List·Memᴰ k (looksOf t c) → List·Memᴰ k (keys s)) → R s → R (write t c s))
       (kept-hold : (x : Request) (s : State) → ItemGood x → R s → R (hold x s)) where
     keep-lookUps : (ks : List Key) → ((k : Key) → List·Memᴰ k ks → KeyGood k) → (s : State) → R s → R (each (lookUp t) ks s)
     unfolding lookUp
@@ -185,9 +185,9 @@ module _ (t : List Node) where
     keep-clause : (x : Request) (c : Clause) → ItemGood x → List·Memᴰ c (clausesOf t x) → (s : State) → R s → R (writeClause t c s)
     unfolding writeClause lookUp
     keep-clause x c i m s r =
-        let g : (k : Key) → List·Memᴰ k (looksOf c) → KeyGood k = λ k n. looked x c k i m n in
-        kept-write x c (each (lookUp t) (looksOf c) s) i m (asks-serve key-dec key-falls keys (define t) (define-keys t) (looksOf c) g s .has)
-        (keep-lookUps (looksOf c) g s r)
+        let g : (k : Key) → List·Memᴰ k (looksOf t c) → KeyGood k = λ k n. looked x c k i m n in
+        kept-write x c (each (lookUp t) (looksOf t c) s) i m (asks-serve key-dec key-falls keys (define t) (define-keys t) (looksOf t c) g s .has)
+        (keep-lookUps (looksOf t c) g s r)
 
     keep-request : (x : Request) → ItemGood x → (s : State) → R s → R (writeRequest t x s)
     unfolding writeRequest
@@ -202,10 +202,10 @@ module _ (t : List Node) where
 
   -- With the nodes of the table alone.
   pub serve-in : Ok t → (R : State → Type 0)
-      → ((k : Key) (s : State) → KeyIn t k → R s → R (define t k s)) → ((c : Clause) (s : State) → R s → R (write c s))
+      → ((k : Key) (s : State) → KeyIn t k → R s → R (define t k s)) → ((c : Clause) (s : State) → R s → R (write t c s))
       → ((x : Request) (s : State) → R s → R (hold x s))
       → (xs : List Request) → Asked xs → (s : State) → R s → R (serve t xs s)
   serve-in ok R d w h xs a s r =
       serve-keeps (In t) (KeyIn t) (needs-fall t ok) (pulls-fall t)
-      (λ x c k i m n. counters-grow .lookups-in t ok x k i (unfold lookups in mem-flatMap looksOf m n)) R (λ k u i n b q. d k u i q)
+      (λ x c k i m n. counters-grow .lookups-in t ok x k i (unfold lookups in mem-flatMap (looksOf t) m n)) R (λ k u i n b q. d k u i q)
       (λ x c u i m b q. w c u q) (λ x u i q. h x u q) xs (a .there) a s r

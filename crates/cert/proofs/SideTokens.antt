@@ -1,6 +1,5 @@
 -- The tokens of a side's definition stand for the real definition over the literals that the side hands on.
 use mathlib.Core.Path.{_≡_, refl, sym, _∙_, ap, subst}
-use mathlib.Core.Logic.{dite}
 use mathlib.Core.List.{List, [], _∷_, List·Memᴰ, List·Memᴰ·head}
 use Prim.Native.Nat.{ℕ, zero, suc, _+_, _≤_, _<_}
 use native.Mathlib.Decide.{decLe}
@@ -12,14 +11,14 @@ use Rattle.record.specs.Steps.{stepSum}
 use Rattle.totdb.specs.Nodes.{Node, len, join, leaves, at, leaf, sideLit, range, output, sideLen, sideLeaves, plainOr, limited, sideOutputs, outputs}
 use Rattle.totdb.specs.declared.Side.{Side}
 use Rattle.cert.specs.Definitions.{real, realDef, only-if, stored, if, window, windowDef, Key, pulls, window-zero, Definition, sideDef, oneDef}
-use Rattle.cert.specs.Requests.{keyOf, defTokens}
+use Rattle.cert.specs.Requests.{of-side, keyOf, defTokens}
 use Rattle.cert.specs.Sized.{Fit, Sized}
 use Rattle.cert.specs.State.{State, keys, stepIn, Head}
+use Rattle.cert.proofs.Available.{Available, side-if-from, side-only-if-to}
 use Rattle.cert.proofs.ClauseDerivations.{Stands}
 use Rattle.cert.proofs.Distinct.{Distinct, off-units, own-apart}
-use Rattle.cert.proofs.Keyed.{KeyOf, by-form}
+use Rattle.cert.proofs.Keyed.{KeyOf, by-form, real-key, window-key}
 use Rattle.cert.proofs.Known.{KnownIn, long-join, knownOf}
-use Rattle.cert.proofs.Lookups.{real-only-key, real-if-key, window-only-key, window-if-key}
 use Rattle.cert.proofs.Pulls.{pulls-zero}
 use Rattle.cert.proofs.Sides.{real-only-stands, real-if-stands, window-only-stands, window-if-stands, one-only, one-if}
 use Rattle.cert.proofs.Totalizer.{real-only-if, real-if, leaf-zero, leaf-two}
@@ -40,18 +39,9 @@ one-output : (t : List Node) (c : Side) → outputs (at t (c .node)) (c .offset)
 unfolding outputs sideLit range
 one-output t c = refl
 
--- The keys of a definition.
-real-key-only : (m n v : ℕ) → v ≤ m → List·Memᴰ (real n v) (keyOf (realDef m n v only-if))
-real-key-only m n v h = rw (real-only-key m n v h) (List·Memᴰ·head refl)
-
-real-key-if : (m n v : ℕ) → 1 ≤ v → List·Memᴰ (real n v) (keyOf (realDef m n v if))
-real-key-if m n v h = rw (real-if-key m n v h) (List·Memᴰ·head refl)
-
-window-key-only : (n f m i v : ℕ) → KeyOf f i v → i ≤ m → List·Memᴰ (window n f m) (keyOf (windowDef n f m v only-if))
-window-key-only n f m i v k h = rw (window-only-key n f m i v k h) (List·Memᴰ·head refl)
-
-window-key-if : (n f m i v : ℕ) → KeyOf f i v → 1 ≤ i → List·Memᴰ (window n f m) (keyOf (windowDef n f m v if))
-window-key-if n f m i v k h = rw (window-if-key n f m i v k h) (List·Memᴰ·head refl)
+-- The key of a definition.
+own-key : (e : Definition) {k : Key} → keyOf e ≡ k ∷ [] → List·Memᴰ k (keyOf e)
+own-key e i = rw i (List·Memᴰ·head refl)
 
 module _ (h : Head) (t : List Node) (sz : Sized t) (d : Distinct t) (s : State) (k : KnownIn h t s)
     (closed : (i j : Key) → List·Memᴰ i (keys s) → List·Memᴰ j (pulls i) → List·Memᴰ j (keys s)) where
@@ -99,24 +89,20 @@ module _ (h : Head) (t : List Node) (sz : Sized t) (d : Distinct t) (s : State) 
 
     module _ (more : 1 < sideLen t c) where
       plain-only : c .offset ≡ 0 → c .limit ≡ 0 → (i : ℕ) → i ≤ sideLen t c → List·Memᴰ (real (c .node) i) (keys s)
-          → Stands (stepSum (h .step) (knownOf h s)) (defTokens (stepIn (s .stored)) (realDef (sideLen t c) (c .node) i only-if))
+          → Stands (stepSum (h .step) (knownOf h s)) (defTokens (stepIn (s .stored)) (realDef (c .node) i only-if))
           (real-only-if (sideLeaves t c) (sideLit t c i) i)
       plain-only e g i l m =
           let p = plain-leaves e g in
-          subst (λ (n : ℕ). Stands (stepSum (h .step) (knownOf h s)) (defTokens (stepIn (s .stored)) (realDef n (c .node) i only-if))
-          (real-only-if (sideLeaves t c) (sideLit t c i) i)) (sym (p .1))
-          (rw (p .0, plain-long e g i)
-          (real-only-stands h t s k (c .node) (d .within (c .node) there) (node-off (c .node) there (omega arith)) i (omega (arith, p .1)) m))
+          rw (p .0, plain-long e g i)
+          (real-only-stands h t s k (c .node) (d .within (c .node) there) (node-off (c .node) there (omega arith)) i (omega (arith, p .1)) m)
 
       plain-if : c .offset ≡ 0 → c .limit ≡ 0 → (i : ℕ) → 1 ≤ i → i ≤ sideLen t c + 1 → List·Memᴰ (real (c .node) i) (keys s)
-          → Stands (stepSum (h .step) (knownOf h s)) (defTokens (stepIn (s .stored)) (realDef (sideLen t c) (c .node) i if))
+          → Stands (stepSum (h .step) (knownOf h s)) (defTokens (stepIn (s .stored)) (realDef (c .node) i if))
           (real-if (sideLeaves t c) (sideLit t c i) i)
       plain-if e g i a l m =
           let p = plain-leaves e g in
-          subst (λ (n : ℕ). Stands (stepSum (h .step) (knownOf h s)) (defTokens (stepIn (s .stored)) (realDef n (c .node) i if))
-          (real-if (sideLeaves t c) (sideLit t c i) i)) (sym (p .1))
-          (rw (p .0, plain-long e g i)
-          (real-if-stands h t s k (c .node) (d .within (c .node) there) (node-off (c .node) there (omega arith)) i a (omega (arith, p .1)) m))
+          rw (p .0, plain-long e g i)
+          (real-if-stands h t s k (c .node) (d .within (c .node) there) (node-off (c .node) there (omega arith)) i a (omega (arith, p .1)) m)
 
       window-only : 0 < c .offset + c .limit → (i v : ℕ) → KeyOf (c .offset) i v → i ≤ sideLen t c
           → List·Memᴰ (window (c .node) (c .offset) (sideLen t c)) (keys s)
@@ -140,35 +126,38 @@ module _ (h : Head) (t : List Node) (sz : Sized t) (d : Distinct t) (s : State) 
           (unfold sideLit in window-if-stands h t s k (c .node) (c .offset) (sideLen t c) fits m
           (zero-stored (c .node) (c .offset) (sideLen t c) m) i v q a l)
 
-    pub side-only : (i : ℕ) → i ≤ sideLen t c → ((j : Key) → List·Memᴰ j (keyOf (sideDef t c i only-if)) → List·Memᴰ j (keys s))
+    pub side-only : (i : ℕ) → Available t (of-side c i only-if)
+        → ((j : Key) → List·Memᴰ j (keyOf (sideDef t c i only-if)) → List·Memᴰ j (keys s))
         → Stands (stepSum (h .step) (knownOf h s)) (defTokens (stepIn (s .stored)) (sideDef t c i only-if))
         (real-only-if (sideLeaves t c) (sideLit t c i) i)
-    side-only i l =
+    side-only i av =
+        let l = side-only-if-to i av in
         by-form (λ (e : Definition). ((j : Key) → List·Memᴰ j (keyOf e) → List·Memᴰ j (keys s))
         → Stands (stepSum (h .step) (knownOf h s)) (defTokens (stepIn (s .stored)) e) (real-only-if (sideLeaves t c) (sideLit t c i) i)) t c i only-if
         (λ p has. rw (single p)
-        (subst (Stands (stepSum (h .step) (knownOf h s)) (defTokens (stepIn (s .stored)) (oneDef (sideLit t c 1) i only-if)))
+        (subst (Stands (stepSum (h .step) (knownOf h s)) (defTokens (stepIn (s .stored)) (oneDef (sideLit t c 1) i)))
         (one i (omega arith)) (one-only (stepIn (s .stored)) (sideLit t c 1) i (omega arith))))
-        (λ p e g has. plain-only p e g i l (has (real (c .node) i) (real-key-only (sideLen t c) (c .node) i l)))
+        (λ p e g has. plain-only p e g i l (has (real (c .node) i) (own-key (realDef (c .node) i only-if) (real-key (c .node) i only-if))))
         (λ p g v q has. window-only p g i v q l
-        (has (window (c .node) (c .offset) (sideLen t c)) (window-key-only (c .node) (c .offset) (sideLen t c) i v q l)))
+        (has (window (c .node) (c .offset) (sideLen t c)) (own-key (windowDef (c .node) (c .offset) (sideLen t c) v only-if) (window-key (c .node) (c .offset) (sideLen t c) v only-if))))
       where
         one : (i : ℕ) → i ≤ 1 → real-only-if (sideLit t c 1 ∷ []) (sideLit t c 1) i ≡ real-only-if (sideLit t c 1 ∷ []) (sideLit t c i) i
         one zero g = leaf-zero (sideLit t c 1) (sideLit t c 1) ∙ sym (leaf-zero (sideLit t c 1) (sideLit t c 0))
         one (suc zero) g = refl
         one (suc (suc i)) g = absurd (omega arith)
 
-    pub side-if : (i : ℕ) → 1 ≤ i → i ≤ sideLen t c + 1 → ((j : Key) → List·Memᴰ j (keyOf (sideDef t c i if)) → List·Memᴰ j (keys s))
+    pub side-if : (i : ℕ) → Available t (of-side c i if) → i ≤ sideLen t c + 1 → ((j : Key) → List·Memᴰ j (keyOf (sideDef t c i if)) → List·Memᴰ j (keys s))
         → Stands (stepSum (h .step) (knownOf h s)) (defTokens (stepIn (s .stored)) (sideDef t c i if)) (real-if (sideLeaves t c) (sideLit t c i) i)
-    side-if i a l =
+    side-if i av l =
+        let a = side-if-from i av in
         by-form (λ (e : Definition). ((j : Key) → List·Memᴰ j (keyOf e) → List·Memᴰ j (keys s))
         → Stands (stepSum (h .step) (knownOf h s)) (defTokens (stepIn (s .stored)) e) (real-if (sideLeaves t c) (sideLit t c i) i)) t c i if
         (λ p has. rw (single p)
-        (subst (Stands (stepSum (h .step) (knownOf h s)) (defTokens (stepIn (s .stored)) (oneDef (sideLit t c 1) i if))) (one i a (omega arith))
+        (subst (Stands (stepSum (h .step) (knownOf h s)) (defTokens (stepIn (s .stored)) (oneDef (sideLit t c 1) i))) (one i a (omega arith))
         (one-if (stepIn (s .stored)) (sideLit t c 1) i a (omega arith))))
-        (λ p e g has. plain-if p e g i a l (has (real (c .node) i) (real-key-if (sideLen t c) (c .node) i a)))
+        (λ p e g has. plain-if p e g i a l (has (real (c .node) i) (own-key (realDef (c .node) i if) (real-key (c .node) i if))))
         (λ p g v q has. window-if p g i v q a l
-        (has (window (c .node) (c .offset) (sideLen t c)) (window-key-if (c .node) (c .offset) (sideLen t c) i v q a)))
+        (has (window (c .node) (c .offset) (sideLen t c)) (own-key (windowDef (c .node) (c .offset) (sideLen t c) v if) (window-key (c .node) (c .offset) (sideLen t c) v if))))
       where
         one : (i : ℕ) → 1 ≤ i → i ≤ 2 → real-if (sideLit t c 1 ∷ []) (sideLit t c 1) i ≡ real-if (sideLit t c 1 ∷ []) (sideLit t c i) i
         one zero z g = absurd (omega arith)

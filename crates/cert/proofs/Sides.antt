@@ -4,7 +4,7 @@ use mathlib.Core.Logic.{dite}
 use mathlib.Core.List.{List, [], _∷_, _++_, map, flatMap, map-append, append-nil, List·Memᴰ}
 use mathlib.Core.Option.{Option, none, some}
 use Prim.Native.Nat.{ℕ, zero, suc, _+_, _-_, _*_, _≤_, _<_}
-use native.Mathlib.Decide.{decLe, decLt}
+use native.Mathlib.Decide.{decLt}
 use native.Mathlib.Omega.{arith}
 use lib.ListN.{length, getD, length-map, List·getD-map}
 use Rattle.pb.specs.Rules.{step, literalAxiom, literal}
@@ -13,7 +13,7 @@ use Rattle.pb.proofs.Normal.{Clean, Same, Apart-clean, Off, Apart}
 use Rattle.pb.proofs.Rules.{same-refl}
 use Rattle.record.specs.Steps.{Defined, derived, stepSum, written}
 use Rattle.totdb.specs.Nodes.{Node, len, leaves, range, at, output, outputs}
-use Rattle.cert.specs.Definitions.{Key, oneDef, only-if, if, realRecords, atLeastZero, realIf, realOnlyIf, definedBy, real, realDef, asWritten, stored, lacking, window, window-zero, outputsBefore, outputsAfter, windowIfSum, windowOnlyIfSum, windowDef, windowOnlyIfOf, windowIfOf}
+use Rattle.cert.specs.Definitions.{Key, oneDef, only-if, if, realRecords, atLeastZero, realIf, realOnlyIf, definedBy, real, realDef, asWritten, window, window-zero, outputsBefore, outputsAfter, windowIfSum, windowOnlyIfSum, windowDef, windowOnlyIfOf, windowIfOf}
 use Rattle.cert.specs.Requests.{defTokens}
 use Rattle.cert.specs.State.{State, keys, fromIn, stepIn, Head}
 use Rattle.cert.proofs.Apart.{length-range}
@@ -36,14 +36,14 @@ unfolding literalAxiom
 lit-clean l = Apart-clean (1 · l ∷ []) (tt, tt)
 
 module _ {sums : ℕ → Option Sum} (at-step : Key → ℕ → ℕ) (o : ℕ) where
-  pub one-only : (i : ℕ) → i ≤ 1 → Stands sums (defTokens at-step (oneDef o i only-if)) (real-only-if (o ∷ []) o i)
+  pub one-only : (i : ℕ) → i ≤ 1 → Stands sums (defTokens at-step (oneDef o i)) (real-only-if (o ∷ []) o i)
   unfolding defTokens oneDef
   one-only zero h = subst (Stands sums (literal o ∷ [])) (sym (leaf-zero o o))
       (stands-given (gives-literal o) (same-refl (literalAxiom o)) (clean-room (literalAxiom o) (lit-clean o)))
   one-only (suc zero) h = stands-nothing (leaf-only-if o)
   one-only (suc (suc i)) h = absurd (omega arith)
 
-  pub one-if : (i : ℕ) → 1 ≤ i → i ≤ 2 → Stands sums (defTokens at-step (oneDef o i if)) (real-if (o ∷ []) o i)
+  pub one-if : (i : ℕ) → 1 ≤ i → i ≤ 2 → Stands sums (defTokens at-step (oneDef o i)) (real-if (o ∷ []) o i)
   unfolding defTokens oneDef
   one-if zero h g = absurd (omega arith)
   one-if (suc zero) h g = stands-nothing (leaf-if o)
@@ -115,7 +115,7 @@ module _ (h : Head) (t : List Node) (s : State) (k : KnownIn h t s) where
     top-if p = let z : length (leaves (at t n)) + 1 - (length (leaves (at t n)) + 1) ≡ 0 = omega arith in rw z (unfold keep in rw append-nil)
 
     pub real-only-stands : (v : ℕ) → v ≤ len (at t n) → List·Memᴰ (real n v) (keys s)
-        → Stands (stepSum (h .step) (knownOf h s)) (defTokens (stepIn (s .stored)) (realDef (len (at t n)) n v only-if))
+        → Stands (stepSum (h .step) (knownOf h s)) (defTokens (stepIn (s .stored)) (realDef n v only-if))
         (real-only-if (leaves (at t n)) (output (at t n) v) v)
     unfolding defTokens stepIn realDef
     real-only-stands zero l m =
@@ -124,25 +124,20 @@ module _ (h : Head) (t : List Node) (s : State) (k : KnownIn h t s) where
         (key-step (real n 0) m 0 (unfold definedBy realRecords flatMap asWritten atLeastZero in omega arith)
         ∙ (unfold definedBy realRecords flatMap asWritten atLeastZero sumOf in refl)) (Apart-clean _ (different-apart (leaves (at t n)) apart))
         (same-refl _))
-    real-only-stands (suc v) l m = by (decLe (suc v) (len (at t n)))
+    real-only-stands (suc v) l m =
+        stands-step (fromIn (s .stored) (real n (suc v)) + 1) (real-only-if (leaves (at t n)) (output (at t n) (suc v)) (suc v))
+        (real-only-if (leaves (at t n)) (output (at t n) (suc v)) (suc v))
+        (key-step (real n (suc v)) m 1 (omega (arith, ap length two, length-map (definedBy t (real n (suc v))) sumOf))
+        ∙ ap (λ (l : List (Option Sum)). getD l 1 none) two)
+        (real-only-clean (leaves (at t n)) (output (at t n) (suc v)) (different-apart (leaves (at t n)) apart) (off (suc v) (omega arith) l) (suc v))
+        (same-refl _)
       where
         two : map sumOf (definedBy t (real n (suc v))) ≡ some (normal (real-if (leaves (at t n)) (output (at t n) (suc v)) (suc v))) ∷ some
             (normal (real-only-if (leaves (at t n)) (output (at t n) (suc v)) (suc v))) ∷ []
         two = unfold definedBy in real-sums (at t n) (suc v) (omega arith) l
 
-        by : (c : Dec (suc v ≤ len (at t n)))
-            → Stands (stepSum (h .step) (knownOf h s)) (defTokens (stepIn (s .stored)) (dite c (λ _. stored (real n (suc v)) 1) (λ _. lacking)))
-            (real-only-if (leaves (at t n)) (output (at t n) (suc v)) (suc v))
-        by (yes e) = stands-step (fromIn (s .stored) (real n (suc v)) + 1) (real-only-if (leaves (at t n)) (output (at t n) (suc v)) (suc v))
-            (real-only-if (leaves (at t n)) (output (at t n) (suc v)) (suc v))
-            (key-step (real n (suc v)) m 1 (omega (arith, ap length two, length-map (definedBy t (real n (suc v))) sumOf))
-            ∙ ap (λ (l : List (Option Sum)). getD l 1 none) two)
-            (real-only-clean (leaves (at t n)) (output (at t n) (suc v)) (different-apart (leaves (at t n)) apart) (off (suc v) (omega arith) l)
-            (suc v)) (same-refl _)
-        by (no e) = absurd (e l)
-
     pub real-if-stands : (v : ℕ) → 1 ≤ v → v ≤ len (at t n) + 1 → List·Memᴰ (real n v) (keys s)
-        → Stands (stepSum (h .step) (knownOf h s)) (defTokens (stepIn (s .stored)) (realDef (len (at t n)) n v if))
+        → Stands (stepSum (h .step) (knownOf h s)) (defTokens (stepIn (s .stored)) (realDef n v if))
         (real-if (leaves (at t n)) (output (at t n) v) v)
     unfolding defTokens stepIn realDef
     real-if-stands zero g l m = absurd (omega arith)
@@ -272,7 +267,7 @@ module _ (h : Head) (t : List Node) (s : State) (k : KnownIn h t s) where
         rw (around i l, value-is i)
         (subst (λ (v : ℕ). Same (windowOnlyIfOf xs w ys) (real-only-if (xs ++ w ∷ ys) w v)) (omega (arith, before-length i))
         (window-only-if-real xs w ys)) in
-        rw (only-if-above n f m i v k l, z) (stands-step (fromIn (s .stored) (window n f m) + (2 * i + 1)) (windowOnlyIfOf xs w ys)
+        rw (only-if-above n f m i v k, z) (stands-step (fromIn (s .stored) (window n f m) + (2 * i + 1)) (windowOnlyIfOf xs w ys)
         (real-only-if (outputs (at t n) f m) (output (at t n) (f + suc i)) (suc i)) (only-at i l ∙ (unfold windowOnlyIfSum in refl))
         (window-only-if-clean xs w ys apart) same)
 

@@ -85,7 +85,7 @@ module _ (h : Head) (t : List Node) (ds : List (List ℕ)) where
           → storedSteps t (define t j s .stored) ≡ storedSteps t (s .stored) ++ range (s .next-step) (length (definedBy t j))
       stored-is s = unfold define in stored-snoc t (s .stored) (record { key = j; from = s .next-step })
 
-  laid-write : (c : Clause) (s : State) → LaidIn h t ds s → LaidIn h t ds (write c s)
+  laid-write : (c : Clause) (s : State) → LaidIn h t ds s → LaidIn h t ds (write t c s)
   laid-write c s k = record {
     counted = counted-write h t c s (k .counted);
     grouped =
@@ -95,7 +95,7 @@ module _ (h : Head) (t : List Node) (ds : List (List ℕ)) where
   }
     where
       clauseRecords : List Record
-      clauseRecords = derivation (clauseTokens (stepIn (s .stored)) c) ∷ clause (s .next-step) (c .literals) ∷ []
+      clauseRecords = derivation (clauseTokens (stepIn (s .stored)) t c) ∷ clause (s .next-step) (c .literals) ∷ []
 
   laid-hold : (x : Request) (s : State) → LaidIn h t ds s → LaidIn h t ds (hold x s)
   laid-hold x s k = record { counted = counted-hold h t x s (k .counted); grouped = unfold hold in k .grouped }

@@ -25,49 +25,44 @@ pub data Key : Type 0 where
   real : ℕ → ℕ → Key
   window-zero window : ℕ → ℕ → ℕ → Key
 
--- A definition in one direction (rustsat's SemDefinition): nothing to add, a literal axiom, one of the steps of a key, or none of that direction (question 13).
+-- A definition in one direction (rustsat's SemDefinition): nothing to add, a literal axiom, or one of the steps of a key.
 -- For a real definition the steps count from 0. For a window 0 is the sum of value 0, and the if and the only-if of its i-th value are 2i - 1 and 2i.
 pub data Definition : Type 0 where
   nothing : Definition
   axiom-of : ℕ → Definition
   stored : Key → ℕ → Definition
-  lacking : Definition
+
+-- The definitions of a value. Of an if at value 0 and of an only-if above the length, which there are not, they mean nothing.
 
 -- A leaf, or a window of length 1: its one literal, at 0, at its own value and above.
-unfoldable pub oneDef : ℕ → ℕ → Direction → Definition
+unfoldable pub oneDef : ℕ → ℕ → Definition
 unfolding neg
-oneDef o zero if = lacking
-oneDef o zero only-if = axiom-of o
-oneDef o (suc zero) d = nothing
-oneDef o (suc (suc i)) if = axiom-of (neg o)
-oneDef o (suc (suc i)) only-if = lacking
+oneDef o zero = axiom-of o
+oneDef o (suc zero) = nothing
+oneDef o (suc (suc i)) = axiom-of (neg o)
 
--- A real definition of value v, where the length is m: only-if alone at 0, if alone above the length, else if and then only-if.
-unfoldable pub realDef : ℕ → ℕ → ℕ → Direction → Definition
-unfolding decLe
-realDef m n zero if = lacking
-realDef m n zero only-if = stored (real n 0) 0
-realDef m n (suc v) if = stored (real n (suc v)) 0
-realDef m n (suc v) only-if = dite (decLe (suc v) m) (λ _. stored (real n (suc v)) 1) (λ _. lacking)
+-- A real definition of node n: if and then only-if. Value 0 is one sum, its only-if; so is the value above the length, its if.
+unfoldable pub realDef : ℕ → ℕ → Direction → Definition
+realDef n zero d = stored (real n 0) 0
+realDef n (suc v) if = stored (real n (suc v)) 0
+realDef n (suc v) only-if = stored (real n (suc v)) 1
 
 -- A window of m outputs, by key: 0 for its value 0, else the node's value v, from f + 1 to f + m + 1.
 unfoldable pub windowDef : ℕ → ℕ → ℕ → ℕ → Direction → Definition
-unfolding decLe
-windowDef n f m zero if = lacking
-windowDef n f m zero only-if = stored (window n f m) 0
+windowDef n f m zero d = stored (window n f m) 0
 windowDef n f m (suc v) if = stored (window n f m) (2 * (v - f) + 1)
-windowDef n f m (suc v) only-if = dite (decLe (suc v) (f + m)) (λ _. stored (window n f m) (2 * (v - f) + 2)) (λ _. lacking)
+windowDef n f m (suc v) only-if = stored (window n f m) (2 * (v - f) + 2)
 
 -- By key. Plain, or a window: node n, offset and limit, m outputs.
 unfoldable pub longDef : ℕ → ℕ → ℕ → ℕ → ℕ → Direction → Definition
 unfolding plainOr realDef windowDef
-longDef m n f k v d = plainOr f k (realDef m n v d) (windowDef n f m v d)
+longDef m n f k v d = plainOr f k (realDef n v d) (windowDef n f m v d)
 
 -- The definition of a side's value i, from 0 to one above its length. A value at or below the offset is keyed 0.
 unfoldable pub sideDef : List Node → Side → ℕ → Direction → Definition
 unfolding sideLen sideLit oneDef longDef keyed decLe
 sideDef t s i d =
-    dite (decLe (sideLen t s) 1) (λ _. oneDef (sideLit t s 1) i d) (λ _. longDef (sideLen t s) (s .node) (s .offset) (s .limit) (keyed s i) d)
+    dite (decLe (sideLen t s) 1) (λ _. oneDef (sideLit t s 1) i) (λ _. longDef (sideLen t s) (s .node) (s .offset) (s .limit) (keyed s i) d)
 
 -- The real definitions of the outputs of a window, ascending.
 abbrev pub windowReals : ℕ → ℕ → ℕ → List Key

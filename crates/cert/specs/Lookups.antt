@@ -6,7 +6,7 @@ use native.Mathlib.Decide.{ℕ-discrete}
 use Rattle.totdb.specs.Nodes.{Node, leaf, join, at, range, sideLen, plainOr}
 use Rattle.totdb.specs.declared.Side.{Side}
 use Rattle.cert.specs.Definitions.{Direction, if, only-if, Key, real, window-zero, window}
-use Rattle.cert.specs.Requests.{Request, request}
+use Rattle.cert.specs.Requests.{Request, request, Lookup, of-side, of-node}
 use Rattle.cert.specs.Totalizer.{pairs}
 
 -- A window is defined all at once: value 0, the real definitions of its m outputs from f + 1 up, the rest.
@@ -20,19 +20,28 @@ sideKeys t s i =
     ite {C = List Key} (ℕ-discrete (sideLen t s) 1) []
     (plainOr (s .offset) (s .limit) (real (s .node) i ∷ []) (windowKeys (s .node) (s .offset) (sideLen t s)))
 
--- Of a clause of value v, by its indices of the left and the right side: left, right, this.
-abbrev pub clauseKeys : List Node → ℕ → Side → Side → ℕ → ℕ → ℕ → List Key
-clauseKeys t n l r v i j = sideKeys t l i ++ sideKeys t r j ++ (real n v ∷ [])
+-- Of a node's value it is the real definition.
+unfoldable pub lookupKeys : List Node → Lookup → List Key
+unfolding sideKeys
+lookupKeys t (of-side s i d) = sideKeys t s i
+lookupKeys t (of-node n v d) = real n v ∷ []
 
--- C1(α, β, σ) uses the sides at α and β, C2(α, β, σ) at α + 1 and β + 1. A leaf has no clause.
-unfoldable pub keysAt : List Node → ℕ → Node → Direction → ℕ → List Key
-unfolding sideKeys sideLen pairs flatMap
-keysAt t n (leaf a) d v = []
-keysAt t n (join ls o l r) if σ = flatMap {B = Key} (λ (x : ℕ × ℕ). clauseKeys t n l r σ (x .0) (x .1)) (pairs (sideLen t l) (sideLen t r) σ)
-keysAt t n (join ls o l r) only-if zero = []
-keysAt t n (join ls o l r) only-if (suc σ) =
-    flatMap {B = Key} (λ (x : ℕ × ℕ). clauseKeys t n l r (suc σ) (suc (x .0)) (suc (x .1))) (pairs (sideLen t l) (sideLen t r) σ)
+-- What each clause of a value uses, left, right, this: C1(α, β, σ) the sides' only-if at α and β and the if of σ, C2(α, β, σ) the sides' if at α + 1 and
+-- β + 1 and the only-if of σ + 1. A leaf has no clause.
+unfoldable pub usedAt : List Node → ℕ → Node → Direction → ℕ → List (List Lookup)
+unfolding sideLen pairs
+usedAt t n (leaf a) d v = []
+usedAt t n (join ls o l r) if σ =
+    map {B = List Lookup} (λ (x : ℕ × ℕ). of-side l (x .0) only-if ∷ of-side r (x .1) only-if ∷ of-node n σ if ∷ []) (pairs (sideLen t l) (sideLen t r) σ)
+usedAt t n (join ls o l r) only-if zero = []
+usedAt t n (join ls o l r) only-if (suc σ) =
+    map {B = List Lookup} (λ (x : ℕ × ℕ). of-side l (suc (x .0)) if ∷ of-side r (suc (x .1)) if ∷ of-node n (suc σ) only-if ∷ [])
+    (pairs (sideLen t l) (sideLen t r) σ)
+
+unfoldable pub usedBy : List Node → Request → List (List Lookup)
+unfolding at usedAt
+usedBy t (request n v d) = usedAt t n (at t n) d v
 
 unfoldable pub keysOf : List Node → Request → List Key
-unfolding at keysAt
-keysOf t (request n v d) = keysAt t n (at t n) d v
+unfolding usedBy lookupKeys flatMap
+keysOf t x = flatMap {B = Key} (flatMap {B = Key} (lookupKeys t)) (usedBy t x)

@@ -1,5 +1,5 @@
 -- A request: what it needs below, the clauses it writes, and what is looked up and derived for each, as functions of a table of nodes.
-use mathlib.Core.Bool.{Bool, true, false, _||_}
+use mathlib.Core.Path.{_≡_}
 use mathlib.Core.Logic.{dite}
 use mathlib.Core.List.{List, [], _∷_, _++_, map, flatMap}
 use Prim.Native.Nat.{ℕ, zero, suc, _+_, _-_, min, _≤_, _<_}
@@ -9,7 +9,7 @@ use Rattle.pb.specs.Rules.{Token, step, literal, saturate}
 use Rattle.pb.specs.Sum.{neg}
 use Rattle.totdb.specs.Nodes.{Node, leaf, join, at, len, output, range, sideLen, sideLit}
 use Rattle.totdb.specs.declared.Side.{Side}
-use Rattle.cert.specs.Definitions.{Direction, if, only-if, Key, Definition, nothing, axiom-of, stored, lacking, realDef, sideDef, addSequence}
+use Rattle.cert.specs.Definitions.{Direction, if, only-if, Key, Definition, nothing, axiom-of, stored, realDef, sideDef, addSequence}
 
 -- A node, a value of it and a direction. It is held once its clauses are written.
 pub data Request : Type 0 where
@@ -64,11 +64,23 @@ needs t (request n v d) = needsAt t (at t n) v d
 
 -- ---- clauses
 
+-- A definition as it is looked up: the value of a side, or of a node, and the direction wanted.
+pub data Lookup : Type 0 where
+  of-side : Side → ℕ → Direction → Lookup
+  of-node : ℕ → ℕ → Direction → Lookup
+
+-- An if at value 0, or an only-if above the length: there is no such definition (document 02, §7).
+pub data Undefined (t : List Node) : Lookup → Type 0 where
+  if-at-zero : {s : Side} {i : ℕ} → i ≡ 0 → Undefined t (of-side s i if)
+  only-if-above : {s : Side} {i : ℕ} → sideLen t s < i → Undefined t (of-side s i only-if)
+  node-if-at-zero : {n v : ℕ} → v ≡ 0 → Undefined t (of-node n v if)
+  node-only-if-above : {n v : ℕ} → len (at t n) < v → Undefined t (of-node n v only-if)
+
 -- A clause with the definitions that its step adds up: this one, plus left, plus right, saturated.
 pub record Clause : Type 0 where
-  pub left : Definition
-  pub right : Definition
-  pub this : Definition
+  pub left : Lookup
+  pub right : Lookup
+  pub this : Lookup
   pub literals : List ℕ
 
 -- A part with index 0 is absent.
@@ -84,21 +96,21 @@ posPart t s i = dite (decLe i (sideLen t s)) (λ _. sideLit t s i ∷ []) (λ _.
 
 -- If, a + b = v: ¬L(a), ¬R(b), o(v), with the sides' only-if at a and b.
 unfoldable pub ifClause : List Node → ℕ → Node → Side → Side → ℕ → ℕ → Clause
-unfolding sideDef realDef len negPart output
+unfolding negPart output
 ifClause t n x l r v a = record {
-  left = sideDef t l a only-if;
-  right = sideDef t r (v - a) only-if;
-  this = realDef (len x) n v if;
+  left = of-side l a only-if;
+  right = of-side r (v - a) only-if;
+  this = of-node n v if;
   literals = negPart t l a ++ negPart t r (v - a) ++ (output x v ∷ []);
 }
 
 -- Only-if, a + b = v - 1: L(a + 1), R(b + 1), ¬o(v), with the sides' if at a + 1 and b + 1.
 unfoldable pub onlyIfClause : List Node → ℕ → Node → Side → Side → ℕ → ℕ → Clause
-unfolding sideDef realDef len posPart output neg
+unfolding posPart output neg
 onlyIfClause t n x l r v a = record {
-  left = sideDef t l (suc a) if;
-  right = sideDef t r (suc (v - 1 - a)) if;
-  this = realDef (len x) n v only-if;
+  left = of-side l (suc a) if;
+  right = of-side r (suc (v - 1 - a)) if;
+  this = of-node n v only-if;
   literals = posPart t l (suc a) ++ posPart t r (suc (v - 1 - a)) ++ (neg (output x v) ∷ []);
 }
 
@@ -115,16 +127,24 @@ clausesOf t (request n v d) = clausesAt t n (at t n) v d
 
 -- ---- lookups and derivation
 
+unfoldable pub definition : List Node → Lookup → Definition
+unfolding sideDef realDef
+definition t (of-side s i d) = sideDef t s i d
+definition t (of-node n v d) = realDef n v d
+
 unfoldable pub keyOf : Definition → List Key
 keyOf nothing = []
 keyOf (axiom-of l) = []
 keyOf (stored k i) = k ∷ []
-keyOf lacking = []
 
 -- Left, right, this.
-unfoldable pub looksOf : Clause → List Key
-unfolding keyOf
-looksOf c = keyOf (c .left) ++ keyOf (c .right) ++ keyOf (c .this)
+abbrev pub lookedUp : Clause → List Lookup
+lookedUp c = c .left ∷ c .right ∷ c .this ∷ []
+
+-- The keys of these, in their order.
+unfoldable pub looksOf : List Node → Clause → List Key
+unfolding definition keyOf flatMap
+looksOf t c = flatMap {B = Key} (λ (l : Lookup). keyOf (definition t l)) (lookedUp c)
 
 -- What a request's clauses are, and what they look up.
 unfoldable pub literalsOf : List Node → Request → List (List ℕ)
@@ -133,33 +153,22 @@ literalsOf t x = map {B = List ℕ} (λ (c : Clause). c .literals) (clausesOf t 
 
 unfoldable pub lookups : List Node → Request → List Key
 unfolding clausesOf looksOf flatMap
-lookups t x = flatMap looksOf (clausesOf t x)
-
--- Question 13.
-unfoldable pub lacks : Definition → Bool
-lacks nothing = false
-lacks (axiom-of l) = false
-lacks (stored k i) = false
-lacks lacking = true
-
-unfoldable pub lacksOne : Clause → Bool
-unfolding lacks
-lacksOne c = lacks (c .left) || lacks (c .right) || lacks (c .this)
+lookups t x = flatMap (looksOf t) (clausesOf t x)
 
 -- `at-step` gives the step of each place of a key.
 unfoldable pub defTokens : (Key → ℕ → ℕ) → Definition → List Token
 defTokens at-step nothing = []
 defTokens at-step (axiom-of l) = literal l ∷ []
 defTokens at-step (stored k i) = step (at-step k i) ∷ []
-defTokens at-step lacking = []
 
 -- This definition, plus left, plus right, saturated.
 abbrev pub stepSequence : List Token → List Token → List Token → List Token
 stepSequence this left right = addSequence (addSequence this left) right ++ (saturate ∷ [])
 
-unfoldable pub clauseTokens : (Key → ℕ → ℕ) → Clause → List Token
-unfolding defTokens addSequence
-clauseTokens at-step c = stepSequence (defTokens at-step (c .this)) (defTokens at-step (c .left)) (defTokens at-step (c .right))
+unfoldable pub clauseTokens : (Key → ℕ → ℕ) → List Node → Clause → List Token
+unfolding definition defTokens addSequence
+clauseTokens at-step t c =
+    stepSequence (defTokens at-step (definition t (c .this))) (defTokens at-step (definition t (c .left))) (defTokens at-step (definition t (c .right)))
 
 -- A request as it is put: the value is one of the node's.
 unfoldable pub Right : List Node → Request → Type 0

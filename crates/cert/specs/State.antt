@@ -73,15 +73,15 @@ define t k s =
     }
 
 -- Write a clause: its step, then the clause.
-unfoldable pub write : Clause → State → State
+unfoldable pub write : List Node → Clause → State → State
 unfolding clauseTokens stepIn
-write c s = record {
+write t c s = record {
   nodes = s .nodes;
   next-variable = s .next-variable;
   next-step = s .next-step + 1;
   held = s .held;
   stored = s .stored;
-  log = s .log ++ (derivation (clauseTokens (stepIn (s .stored)) c) ∷ clause (s .next-step) (c .literals) ∷ []);
+  log = s .log ++ (derivation (clauseTokens (stepIn (s .stored)) t c) ∷ clause (s .next-step) (c .literals) ∷ []);
 }
 
 unfoldable pub hold : Request → State → State
@@ -104,7 +104,7 @@ lookUp t k s = ask key-dec pulls keyRank keys (define t) k s
 -- The definitions of a clause are looked up, then it is written.
 unfoldable pub writeClause : List Node → Clause → State → State
 unfolding each lookUp looksOf write
-writeClause t c s = write c (each (lookUp t) (looksOf c) s)
+writeClause t c s = write t c (each (lookUp t) (looksOf t c) s)
 
 unfoldable pub writeRequest : List Node → Request → State → State
 unfolding each writeClause clausesOf hold

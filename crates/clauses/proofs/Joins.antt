@@ -11,8 +11,8 @@ use Rattle.pb.specs.Sum.{neg}
 use Rattle.totdb.specs.Nodes.{Node, leaf, join, at, len, output, fromFirst, sideLen, sideLit, lengthOver, plainOr, keyed}
 use Rattle.totdb.specs.declared.Side.{Side}
 use Rattle.totdb.proofs.Sides.{plain-keyed, keyed-zero, keyed-above}
-use Rattle.cert.specs.Definitions.{Direction, oneDef, realDef, sideDef}
-use Rattle.cert.specs.Requests.{negPart, posPart, lacks}
+use Rattle.cert.specs.Definitions.{Direction, oneDef, sideDef}
+use Rattle.cert.specs.Requests.{negPart, posPart}
 use Rattle.cert.specs.State.{Stored, stepIn}
 use Rattle.cert.proofs.Keyed.{short-side, plain-side, window-side}
 use Rattle.derivation.specs.Operands.{operand}
@@ -25,7 +25,6 @@ use Rattle.clauses.specs.declared.Join.{Join}
 use Rattle.clauses.specs.Firsts.{realStep, windowStep, FirstsOf}
 use Rattle.clauses.proofs.Firsts.{real-read, window-read}
 use Rattle.clauses.specs.Joins.{JoinOf, JoinIn, ClauseIn, SideReach, ClauseReach, clausePart}
-use Rattle.clauses.proofs.Lacking.{this-there}
 
 -- ---- the outputs of a node
 
@@ -150,19 +149,18 @@ module _ {ls os : List ℕ} {t : List Node} (l : Lists ls os t) {s : Side} {k a 
   unfolding clausePart
   if-literal h g = rw (side-literal l a (i .of) h (omega (arith, side-length t s (i .node-len)))) (neg-one t s a h)
 
-  pub one-operand : (d : Direction) → lengthOver s k ≤ 1 → oneDef (fromFirst (getD os (64 * s .node) 0) (s .offset + 1)) a d ≡ sideDef t s a d
+  pub one-operand : (d : Direction) → lengthOver s k ≤ 1 → oneDef (fromFirst (getD os (64 * s .node) 0) (s .offset + 1)) a ≡ sideDef t s a d
   one-operand d h =
-      ap (λ (o : ℕ). oneDef o a d) (side-literal l 1 (i .of) (omega arith) (side-inside l s (i .of) .2))
+      ap (λ (o : ℕ). oneDef o a) (side-literal l 1 (i .of) (omega arith) (side-inside l s (i .of) .2))
       ∙ sym (short-side t s a d (omega (arith, side-length t s (i .node-len))))
 
-  module _ {firsts : List ℕ} {es : List Stored} (f : FirstsOf t firsts es) (b : Bool) (h : 1 < lengthOver s k)
-      (there : lacks (sideDef t s a (direction b)) ≡ false) where
+  module _ {firsts : List ℕ} {es : List Stored} (f : FirstsOf t firsts es) (b : Bool) (h : 1 < lengthOver s k) where
     pub plain-operand : plainOr (s .offset) (s .limit) true false ≡ true
         → Step (realStep (getD firsts (68 * s .node + keyed s a) 0) (keyed s a) b) ≡ operand (stepIn es) (sideDef t s a (direction b))
     plain-operand p =
         let d = plain-side t s a (direction b) (omega (arith, side-length t s (i .node-len))) p in
         let r = side-reach l i in
-        rw (plain-keyed s p a, d) (real-read f (s .node) (sideLen t s) a b (r .node) (omega (arith, r .short, r .value)) (rw d at there))
+        rw (plain-keyed s p a, d) (real-read f (s .node) a b (r .node) (omega (arith, r .short, r .value)))
 
     pub window-operand : plainOr (s .offset) (s .limit) true false ≡ false
         → Step (windowStep (getD firsts (68 * s .node + 66) 0) (getD firsts (68 * s .node + 67) 0) (s .offset) (keyed s a) b)
@@ -171,11 +169,4 @@ module _ {ls os : List ℕ} {t : List Node} (l : Lists ls os t) {s : Side} {k a 
         let d = window-side t s a (direction b) (omega (arith, side-length t s (i .node-len))) p in
         let w : WindowOf t (s .node) (s .offset) (sideLen t s)
         = record { side = s; of = i .of; node = refl; offset = refl; outputs = refl; long = omega (arith, side-length t s (i .node-len)) } in
-        rw d (window-read f (s .node) (s .offset) (sideLen t s) (keyed s a) b w (rw d at there))
-
--- A clause's own definition.
-pub this-read : {t : List Node} {x : Join} {v : ℕ} {firsts : List ℕ} {es : List Stored} (b : Bool) → FirstsOf t firsts es → JoinIn t x v → x .node < 319
-    → v ≤ 64 → Step (realStep (getD firsts (68 * x .node + v) 0) v b) ≡ operand (stepIn es) (realDef (len (at t (x .node))) (x .node) v (direction b))
-this-read {t} {x} {v} b f i h k =
-    real-read f (x .node) (len (at t (x .node))) v b h (omega arith)
-    (this-there (len (at t (x .node))) (x .node) v b (i .above) (omega (arith, i .within, i .of .own-len)))
+        rw d (window-read f (s .node) (s .offset) (sideLen t s) (keyed s a) b w)

@@ -35,34 +35,34 @@ module _ {c : ℕ} {t : List Node} {m : Memory} {s : State} (clear : m .out .cur
 -- ---- a clause and its step
 
 -- The two records of a clause.
-abbrev pub clauseRecords : Clause → State → List Record
-clauseRecords k s = derivation (clauseTokens (stepIn (s .stored)) k) ∷ clause (s .next-step) (k .literals) ∷ []
+abbrev pub clauseRecords : List Node → Clause → State → List Record
+clauseRecords t k s = derivation (clauseTokens (stepIn (s .stored)) t k) ∷ clause (s .next-step) (k .literals) ∷ []
 
 -- The memory after a clause: two records in the log, one step and one clause more.
-pub record Clausal (m n : Memory) (k : Clause) (s : State) : Type 0 where
+pub record Clausal (m n : Memory) (t : List Node) (k : Clause) (s : State) : Type 0 where
   pub held : n .held ≡ m .held
   pub firsts : n .firsts ≡ m .firsts
   pub steps : n .steps ≡ m .steps
-  pub log : Puts (buffer (m .log) (m .out .cursor)) (flatMap numbers (clauseRecords k s)) (buffer (n .log) (n .out .cursor))
+  pub log : Puts (buffer (m .log) (m .out .cursor)) (flatMap numbers (clauseRecords t k s)) (buffer (n .log) (n .out .cursor))
   pub step : n .out .step ≡ nextStep (m .out .step)
   pub stored : n .out .stored ≡ m .out .stored
   pub clauses : n .out .clauses ≡ nextStep (m .out .clauses)
 
 module _ (c : ℕ) (t : List Node) (k : Clause) (s : State) where
-  exact-write : (m n : Memory) → m .out .cursor .full ≡ false → Exact c t m s → Clausal m n k s → StandsFor c t n (write k s)
+  exact-write : (m n : Memory) → m .out .cursor .full ≡ false → Exact c t m s → Clausal m n t k s → StandsFor c t n (write t k s)
   unfolding write steps clauses keys
   exact-write m n f x w = by (n .out .cursor .full) refl
     where
-      log : buffer (n .log) (n .out .cursor) ≡ puts (filled c []) (flatMap numbers (s .log ++ clauseRecords k s))
-      log = written-more c (s .log) (buffer (m .log) (m .out .cursor)) (x .log) (clauseRecords k s) (w .log)
+      log : buffer (n .log) (n .out .cursor) ≡ puts (filled c []) (flatMap numbers (s .log ++ clauseRecords t k s))
+      log = written-more c (s .log) (buffer (m .log) (m .out .cursor)) (x .log) (clauseRecords t k s) (w .log)
 
-      more-steps : steps (s .log ++ clauseRecords k s) ≡ steps (s .log) + 1
-      more-steps = steps-append (s .log) (clauseRecords k s)
+      more-steps : steps (s .log ++ clauseRecords t k s) ≡ steps (s .log) + 1
+      more-steps = steps-append (s .log) (clauseRecords t k s)
 
-      more-clauses : length (clauses (s .log ++ clauseRecords k s)) ≡ length (clauses (s .log)) + 1
-      more-clauses = rw (clauses-append (s .log) (clauseRecords k s)) (length-append (clauses (s .log)) (clauses (clauseRecords k s)))
+      more-clauses : length (clauses (s .log ++ clauseRecords t k s)) ≡ length (clauses (s .log)) + 1
+      more-clauses = rw (clauses-append (s .log) (clauseRecords t k s)) (length-append (clauses (s .log)) (clauses (clauseRecords t k s)))
 
-      by : (b : Bool) → n .out .cursor .full ≡ b → StandsFor c t n (write k s)
+      by : (b : Bool) → n .out .cursor .full ≡ b → StandsFor c t n (write t k s)
       by true g = over g (over-all log)
       by false g = exact g (record {
         small = x .small;
@@ -87,13 +87,13 @@ module _ (c : ℕ) (t : List Node) (k : Clause) (s : State) where
       })
 
 -- A clause is written, or skipped where the log is full.
-pub write-grows : (k : List Node → Clause) → Grows (λ t s. write (k t) s)
+pub write-grows : (k : List Node → Clause) → Grows (λ t s. write t (k t) s)
 unfolding write
-write-grows k c m t s x = grown (clauseRecords (k t) s) refl x
+write-grows k c m t s x = grown (clauseRecords t (k t) s) refl x
 
 pub does-write : {ls os : List ℕ} {P : List Node → Type 0} {m n : Memory} (k : List Node → Clause) → m .out .cursor .full ≡ false
-    → ((c : ℕ) (t : List Node) (s : State) → Lists ls os t → P t → Exact c t m s → Clausal m n (k t) s)
-    → Does ls os P (λ t s. write (k t) s) m n
+    → ((c : ℕ) (t : List Node) (s : State) → Lists ls os t → P t → Exact c t m s → Clausal m n t (k t) s)
+    → Does ls os P (λ t s. write t (k t) s) m n
 does-write {m = m} {n = n} k f w = does-open f (λ c t s l p x. exact-write c t (k t) s m n f x (w c t s l p x))
 
 -- ---- the tables after calls

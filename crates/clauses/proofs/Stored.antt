@@ -10,7 +10,7 @@ use Rattle.memo.specs.Visit.{each}
 use Rattle.totdb.specs.Nodes.{Node, plainOr, lengthOver, keyed}
 use Rattle.totdb.specs.declared.Side.{Side}
 use Rattle.cert.specs.Definitions.{Key, Direction, real, window, sideDef}
-use Rattle.cert.specs.Requests.{keyOf, lacks, looksOf}
+use Rattle.cert.specs.Requests.{keyOf, looksOf}
 use Rattle.cert.specs.State.{lookUp}
 use Rattle.define.specs.Tables.{Lists, Memory, Does, SideIn, slot, direction}
 use Rattle.define.proofs.Looks.{full-does, there-does}
@@ -72,11 +72,11 @@ module _ {ls os : List ℕ} {P : List Node → Type 0} (k : Key) (m : Memory) (n
 
 module _ {ls os : List ℕ} (s : Side) (k a : ℕ) (d : Direction) (m : Memory) where
   stored-side : sideStored (m .firsts) s k a ≡ true
-      → Does ls os (λ t. SideIn t s k a × (lacks (sideDef t s a d) ≡ false)) (λ t u. each (lookUp t) (keyOf (sideDef t s a d)) u) m m
+      → Does ls os (λ t. SideIn t s k a) (λ t u. each (lookUp t) (keyOf (sideDef t s a d)) u) m m
   stored-side h = by (decLe (lengthOver s k) 1)
     where
       long : (b : Bool) → plainOr (s .offset) (s .limit) true false ≡ b → 1 < lengthOver s k
-          → Does ls os (λ t. SideIn t s k a × (lacks (sideDef t s a d) ≡ false)) (λ t u. each (lookUp t) (keyOf (sideDef t s a d)) u) m m
+          → Does ls os (λ t. SideIn t s k a) (λ t u. each (lookUp t) (keyOf (sideDef t s a d)) u) m m
       long true p g = plain-does s k a d g p
           (stored-does (real (s .node) (keyed s a)) m (λ t l q. real-named l q) (unfold slot in long-stored (m .firsts) s k a g (plain-first (s .offset) (s .limit) _ _ p) ∙ h))
       long false p g = side-does s k a d g p
@@ -84,7 +84,7 @@ module _ {ls os : List ℕ} (s : Side) (k a : ℕ) (d : Direction) (m : Memory) 
           (unfold slot in long-stored (m .firsts) s k a g (plain-second (s .offset) (s .limit) _ _ p) ∙ h))
 
       by : Dec (lengthOver s k ≤ 1)
-          → Does ls os (λ t. SideIn t s k a × (lacks (sideDef t s a d) ≡ false)) (λ t u. each (lookUp t) (keyOf (sideDef t s a d)) u) m m
+          → Does ls os (λ t. SideIn t s k a) (λ t u. each (lookUp t) (keyOf (sideDef t s a d)) u) m m
       by (yes l) = short-does s k a d l
       by (no g) = long (plainOr (s .offset) (s .limit) true false) refl (omega arith)
 
@@ -95,7 +95,7 @@ both-true true b h = (refl, h)
 both-true false b h = true-false h refl
 
 pub does-stored : {ls os : List ℕ} {x : Join} {v i j : ℕ} {b : Bool} (m : Memory) → clauseStored (m .firsts) x v i j ≡ true
-    → Does ls os (λ t. ClauseIn t x v i j b) (λ t u. each (lookUp t) (looksOf (clauseOf t x v i j b)) u) m m
+    → Does ls os (λ t. ClauseIn t x v i j b) (λ t u. each (lookUp t) (looksOf t (clauseOf t x v i j b)) u) m m
 unfolding clauseStored slot
 does-stored {x = x} {v} {i} {j} {b} m h =
     let all = both-true (hasFirst (m .firsts) (68 * x .node + v) && sideStored (m .firsts) (x .left) (x .«left_len») i) _ h in

@@ -8,10 +8,9 @@ use lib.ListN.{getD}
 use Rattle.derivation.specs.Operands.{nextStep}
 use Rattle.totdb.specs.Nodes.{Node, lengthOver, plainOr, keyed}
 use Rattle.totdb.specs.declared.Side.{Side}
-use Rattle.cert.specs.Definitions.{Key, sideDef}
-use Rattle.cert.specs.Requests.{lacks}
+use Rattle.cert.specs.Definitions.{Key}
 use Rattle.cert.specs.State.{Stored, fromIn}
-use Rattle.define.specs.Tables.{slot, Used, direction, Lists, SideIn}
+use Rattle.define.specs.Tables.{slot, Used, Lists, SideIn}
 use Rattle.clauses.specs.declared.Join.{Join}
 
 -- The step k places after the first. It stops where `nextStep` does.
@@ -37,12 +36,11 @@ pub record FirstsOf (t : List Node) (firsts : List ℕ) (es : List Stored) : Typ
   pub is : (k : Key) → Used t k → getD firsts (slot k) 0 ≡ fromIn es k
   pub few : (k : Key) → fromIn es k < 2000000
 
--- What is read of the a-th value of a side: the nodes, and the steps of what is stored, its definition among it. The flag is that of only-if.
-pub record SideRead (ls os firsts : List ℕ) (t : List Node) (es : List Stored) (s : Side) (k a : ℕ) (b : Bool) : Type 0 where
+-- What is read of the a-th value of a side: the nodes, and the steps of what is stored.
+pub record SideRead (ls os firsts : List ℕ) (t : List Node) (es : List Stored) (s : Side) (k a : ℕ) : Type 0 where
   pub lists : Lists ls os t
   pub side : SideIn t s k a
   pub firsts-of : FirstsOf t firsts es
-  pub there : lacks (sideDef t s a (direction b)) ≡ false
 
 -- ---- what is stored
 

@@ -7,8 +7,7 @@ use lib.ListN.{length, getD}
 use Rattle.pb.specs.Sum.{neg}
 use Rattle.totdb.specs.Nodes.{Node, join, at, len, output, sideLen, lengthOver}
 use Rattle.totdb.specs.declared.Side.{Side}
-use Rattle.cert.specs.Definitions.{sideDef, realDef}
-use Rattle.cert.specs.Requests.{Clause, negPart, posPart}
+use Rattle.cert.specs.Requests.{Clause, of-side, of-node, negPart, posPart}
 use Rattle.define.specs.Tables.{direction}
 use Rattle.clauses.specs.declared.Join.{Join}
 
@@ -42,11 +41,11 @@ lastLiteral false o = o
 
 -- The clause of value v with the i-th value of the left side and the j-th of the right.
 unfoldable pub clauseOf : List Node → Join → ℕ → ℕ → ℕ → Bool → Clause
-unfolding sideDef realDef len at output direction clausePart lastLiteral
+unfolding at output direction clausePart lastLiteral
 clauseOf t x v i j b = record {
-  left = sideDef t (x .left) i (direction (not b));
-  right = sideDef t (x .right) j (direction (not b));
-  this = realDef (len (at t (x .node))) (x .node) v (direction b);
+  left = of-side (x .left) i (direction (not b));
+  right = of-side (x .right) j (direction (not b));
+  this = of-node (x .node) v (direction b);
   literals = clausePart b t (x .left) i ++ clausePart b t (x .right) j ++ (lastLiteral b (output (at t (x .node)) v) ∷ []);
 }
 

@@ -30,17 +30,14 @@ pub struct Join {
 }
 
 // A leaf, or a window of length 1: its one literal, at 0, at its own value and above.
-fn one_definition(literal: u32, value: usize, only_if: bool) -> SemDefinition
-    ensures { λ r. ⌜ ((at-step : Key → ℕ → ℕ) → r ≡ operand at-step (oneDef literal value (direction «only_if»))) ⌝ }
+fn one_definition(literal: u32, value: usize) -> SemDefinition
+    ensures { λ r. ⌜ ((at-step : Key → ℕ → ℕ) → r ≡ operand at-step (oneDef literal value)) ⌝ }
 {
-    if only_if {
-        if value == 0 {
-            return SemDefinition::Axiom(literal);
-        }
-        return SemDefinition::None;
-    }
     if 1 < value {
         return SemDefinition::Axiom(pb::neg(literal));
+    }
+    if value == 0 {
+        return SemDefinition::Axiom(literal);
     }
     SemDefinition::None
 }
@@ -102,20 +99,20 @@ fn side_definition(
 ) -> SemDefinition
     requires { ⌜ length (now firsts) ≡ 21692 ⌝ }
     requires { ⌜ SideReach (now outputs) s «node_len» a ⌝ }
-    requires { ⌜ ((ls : List ℕ) × (t : List Node) × (es : List Stored) × SideRead ls (now outputs) (now firsts) t es s «node_len» a «only_if») ⌝ }
+    requires { ⌜ ((ls : List ℕ) × (t : List Node) × (es : List Stored) × SideRead ls (now outputs) (now firsts) t es s «node_len» a) ⌝ }
     ensures { λ r. ⌜ ((ls : List ℕ) (t : List Node) (es : List Stored)
-        → SideRead ls (now (outputs .entry)) (now (firsts .entry)) t es s «node_len» a «only_if»
+        → SideRead ls (now (outputs .entry)) (now (firsts .entry)) t es s «node_len» a
         → r ≡ operand (stepIn es) (sideDef t s a (direction «only_if»))) ⌝ }
 {
     if s.len(node_len) <= 1 {
         let first = outputs[64 * s.node];
-        return one_definition(s.literal(first, 1), a, only_if);
+        return one_definition(s.literal(first, 1), a);
     }
-    let key = s.key(a);
+    // The key is found in each case by itself: of a plain side, whose offset is 0, it comes to the value.
     if s.is_plain() {
-        return real_definition(firsts, s.node, key, only_if);
+        return real_definition(firsts, s.node, s.key(a), only_if);
     }
-    window_definition(firsts, s.node, s.offset, key, only_if)
+    window_definition(firsts, s.node, s.offset, s.key(a), only_if)
 }
 
 // The part of a clause at the a-th literal of a side: in an if clause negated, absent at 0; in an only-if
@@ -168,7 +165,7 @@ fn put_clause(
     requires { ⌜ ((ls h k : List ℕ) × Shown ls (now outputs) (λ t. ClauseIn t x value i j «only_if»)
         (memory h (now firsts) k (now log) o)) ⌝ }
     ensures { λ r. ⌜ ((ls h k : List ℕ) → Does ls (now (outputs .entry)) (λ t. ClauseIn t x value i j «only_if»)
-        (λ t s. write (clauseOf t x value i j «only_if») s)
+        (λ t s. write t (clauseOf t x value i j «only_if») s)
         (memory h (now (firsts .entry)) k (now (log .entry)) o)
         (memory h (now (firsts .entry)) k (now (log .exit)) r)) ⌝ }
 {
@@ -253,7 +250,7 @@ fn look_up_each(
     requires { ⌜ ((h : List ℕ) × (b : Bool) × Shown (now leaves) (now outputs) (λ t. ClauseIn t x value i j b)
         (memory h (now firsts) (now steps) (now log) o)) ⌝ }
     ensures { λ r. ⌜ ((h : List ℕ) (b : Bool) → Does (now (leaves .entry)) (now (outputs .entry)) (λ t. ClauseIn t x value i j b)
-        (λ t s. each (lookUp t) (looksOf (clauseOf t x value i j b)) s)
+        (λ t s. each (lookUp t) (looksOf t (clauseOf t x value i j b)) s)
         (memory h (now (firsts .entry)) (now (steps .entry)) (now (log .entry)) o)
         (memory h (now (firsts .exit)) (now (steps .exit)) (now (log .exit)) r)) ⌝ }
 {
@@ -299,7 +296,7 @@ fn look_up(
     requires { ⌜ ((h : List ℕ) × (b : Bool) × Shown (now leaves) (now outputs) (λ t. ClauseIn t x value i j b)
         (memory h (now firsts) (now steps) (now log) o)) ⌝ }
     ensures { λ r. ⌜ ((h : List ℕ) (b : Bool) → Does (now (leaves .entry)) (now (outputs .entry)) (λ t. ClauseIn t x value i j b)
-        (λ t s. each (lookUp t) (looksOf (clauseOf t x value i j b)) s)
+        (λ t s. each (lookUp t) (looksOf t (clauseOf t x value i j b)) s)
         (memory h (now (firsts .entry)) (now (steps .entry)) (now (log .entry)) o)
         (memory h (now (firsts .exit)) (now (steps .exit)) (now (log .exit)) r)) ⌝ }
 {

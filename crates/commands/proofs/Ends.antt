@@ -13,8 +13,8 @@ use Rattle.define.specs.Tables.{memory, Exact, StandsFor, exact, over}
 use Rattle.define.specs.declared.Out.{Out}
 use Rattle.player.specs.Player.{firstNo, questions, act}
 use Rattle.player.specs.declared.Command.{Command}
-use Rattle.player.proofs.Formed.{formed-act, all-offered}
-use Rattle.player.proofs.Commands.{play-stops, play-goes, play-over}
+use Rattle.player.proofs.Formed.{formed-act}
+use Rattle.player.proofs.Refusal.{play-stops, play-goes, play-over}
 use Rattle.commands.specs.Standing.{Standing, Reported, Played, went, stopped, endedAs}
 use Rattle.commands.specs.declared.Ended.{Ended}
 use Rattle.commands.specs.declared.Totals.{Totals}
@@ -58,8 +58,7 @@ module _ {h : Head} {c : ℕ} {ns ls os held firsts steps log : List ℕ} {z : T
         by (exact room x) =
             let a : e ≡ record { number = 0; totals = record { out = o; nodes = z .nodes; leaves = z .leaves; variable = z .variable } } = is ∙ rw room in
             let l : log″ ≡ log′ = end ∙ ap (λ (b : Buffer). b .log) (sym (settled-not log′ (o .cursor) (z .out .cursor .at) room)) in
-            let g = play-goes h c k s asked (all-offered h k s asked (st .formed))
-            (exact-fits x room) in
+            let g = play-goes h c k s asked (exact-fits x room) in
             rw (a, l) (went (act k s) g refl (record {
               formed = formed-act h k s asked (st .formed);
               lists = rw same-nodes (st .lists);
@@ -72,7 +71,7 @@ module _ {h : Head} {c : ℕ} {ns ls os held firsts steps log : List ℕ} {z : T
             }))
         by (over full x) =
             let a : e ≡ record { number = 14; totals = z } = is ∙ rw full in
-            let g = play-over h c k s asked (all-offered h k s asked (st .formed)) (over-lost x full) in
+            let g = play-over h c k s asked (over-lost x full) in
             let q : log″ ≡ bytes (s .log) ++ replicate (c - length (bytes (s .log))) 0 =
             end ∙ ap (λ (p : ℕ). settled p (buffer log′ (o .cursor)) .log) used
             ∙ ap (λ (b : Buffer). b .log) (over-settled s fits more grown x full) in

@@ -16,10 +16,10 @@ use Rattle.player.specs.Player.{firstNo, questions, act, make}
 use Rattle.player.specs.declared.Command.{Command}
 use Rattle.nodes.specs.Added.{Joinable}
 use Rattle.nodes.proofs.Sides.{SideIs, leaf-side, join-side}
-use Rattle.player.proofs.Formed.{formed-act, all-offered, head-low}
+use Rattle.player.proofs.Formed.{formed-act, head-low}
 use Rattle.player.proofs.Sound.{JoinFits, join-fits, sideLeaves-length}
 use Rattle.player.proofs.Tree.{few-nodes, few-variables, leafCount-leaf, leafCount-join, treed-act}
-use Rattle.player.proofs.Commands.{play-goes}
+use Rattle.player.proofs.Refusal.{play-goes}
 use Rattle.commands.specs.Standing.{Standing, Played, went}
 use Rattle.commands.specs.declared.Ended.{Ended}
 use Rattle.commands.specs.declared.Totals.{Totals}
@@ -57,7 +57,7 @@ module _ {h : Head} {c : ℕ} {ns ls os held firsts steps log : List ℕ} {z : T
     pub makes : Played h c k s ns′ ls′ os′ held firsts steps log e
     makes =
         went (act k s)
-        (play-goes h c k s asked (all-offered h k s asked (st .formed)) (rw same-log (fits st))) number
+        (play-goes h c k s asked (rw same-log (fits st))) number
         (subst (λ (o : Out). Standing h c ns′ ls′ os′ (memory held firsts steps log o) (e .totals) (act k s)) (sym out)
         (subst (λ (u : State). Standing h c ns′ ls′ os′ (memory held firsts steps log (z .out)) (e .totals) u) (sym is) after))
 
@@ -67,8 +67,7 @@ module _ {h : Head} {c : ℕ} {ns ls os held firsts steps log : List ℕ} {z : T
   leaf-there l asked there e a b =
       let same : act (Command.Leaf l) s ≡ s = unfold act in rw (there, act) in
       went s
-      (play-goes h c (Command.Leaf l) s asked (all-offered h (Command.Leaf l) s asked (st .formed))
-      (rw same (fits st)) ∙ ap Rattle.player.specs.Player.accepted same) a
+      (play-goes h c (Command.Leaf l) s asked (rw same (fits st)) ∙ ap Rattle.player.specs.Player.accepted same) a
       (rw b st)
 
   pub leaf-made : (l : ℕ) → firstNo (questions h (s .nodes) (Command.Leaf l)) ≡ 0 → known (s .nodes) l ≡ false → (ns′ ls′ os′ : List ℕ)

@@ -42,7 +42,7 @@ module _ (t : List Node) (sized : Sized t) (n v d : ℕ) (f : RequestFits t n v 
   unfolding define write hold
   request-grows =
       serve-in t (sized-ok t sized) (Grown s) (λ k u i r. grown-more s (u .log) (keyRecords (stepIn (u .stored)) t k) r)
-      (λ c u r. grown-more s (u .log) (derivation (clauseTokens (stepIn (u .stored)) c) ∷ clause (u .next-step) (c .literals) ∷ []) r) (λ x u r. r)
+      (λ c u r. grown-more s (u .log) (derivation (clauseTokens (stepIn (u .stored)) t c) ∷ clause (u .next-step) (c .literals) ∷ []) r) (λ x u r. r)
       (requests n v d) (requests-asked t n v d f) s ([], sym (append-nil (s .log)))
 
   pub request-keeps : (serve t (requests n v d) s .nodes ≡ s .nodes) × (serve t (requests n v d) s .next-variable ≡ s .next-variable)

@@ -1,4 +1,4 @@
-// The commands over the tables: questions 6 to 14, and what a command does that passes them.
+// The commands over the tables: questions 6 to 12 and 14, and what a command does that passes them.
 use define::Out;
 use player::Command;
 use record::Cursor;

@@ -12,7 +12,7 @@ ghost use Rattle.record.specs.Record.{numbers, steps};
 ghost use Rattle.record.specs.Writing.{buffer, Puts};
 ghost use Rattle.totdb.specs.Nodes.{Node};
 ghost use Rattle.cert.specs.Definitions.{Direction, real, realRecords, window-zero, window, sideDef, windowReals};
-ghost use Rattle.cert.specs.Requests.{keyOf, lacks};
+ghost use Rattle.cert.specs.Requests.{keyOf};
 ghost use Rattle.cert.specs.State.{lookUp, define};
 ghost use Rattle.define.specs.Tables.{memory, Shown, Does, Sizes, RealOf, WindowOf, WindowIn, SideIn};
 ghost use Rattle.define.specs.Stores.{outputIn, Inside, NodeOf, kept, storeStep, storeSteps, moved, New, ShownFrom, DoesFrom};
@@ -325,11 +325,9 @@ pub fn look_up_side(
     a: usize,
 ) -> Out
     requires { ⌜ Sizes (now firsts) (now steps) ⌝ }
-    requires { ⌜ ((h : List ℕ) × (d : Direction) × Shown (now leaves) (now outputs)
-        (λ t. SideIn t s «node_len» a × (lacks (sideDef t s a d) ≡ false))
+    requires { ⌜ ((h : List ℕ) × Shown (now leaves) (now outputs) (λ t. SideIn t s «node_len» a)
         (memory h (now firsts) (now steps) (now log) o)) ⌝ }
-    ensures { λ r. ⌜ ((h : List ℕ) (d : Direction) → Does (now (leaves .entry)) (now (outputs .entry))
-        (λ t. SideIn t s «node_len» a × (lacks (sideDef t s a d) ≡ false))
+    ensures { λ r. ⌜ ((h : List ℕ) (d : Direction) → Does (now (leaves .entry)) (now (outputs .entry)) (λ t. SideIn t s «node_len» a)
         (λ t u. each (lookUp t) (keyOf (sideDef t s a d)) u)
         (memory h (now (firsts .entry)) (now (steps .entry)) (now (log .entry)) o)
         (memory h (now (firsts .exit)) (now (steps .exit)) (now (log .exit)) r)) ⌝ }

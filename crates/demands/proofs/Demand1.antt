@@ -1,10 +1,7 @@
 -- Demand 1: every script ends in a finished log or in one refusal, and the log holds the records of the commands before it, then zeros.
 use mathlib.Core.Path.{sym, _∙_, ap}
-use mathlib.Core.List.{List}
-use Prim.Native.Nat.{ℕ}
 use Rattle.player.specs.Player.{Outcome, played}
 use Rattle.player.proofs.Judged.{verdict-of, verdict-is, verdict-led}
-use Rattle.player.proofs.Numbers.{never-lacking}
 use Rattle.player.proofs.Refusal.{outcome-number, outcome-place}
 use Rattle.demands.specs.Demands.{Demand1}
 use Rattle.demands.proofs.Holds.{reports-of}
@@ -24,5 +21,4 @@ demand-1 bs capacity w =
             reports-of bs capacity n p s (verdict-led u) e,
           );
       reports = reports-of bs capacity (o .number) (o .place) (v .0) (verdict-led (v .1)) (v .2);
-      not-13 = never-lacking bs capacity;
     }

@@ -1,26 +1,31 @@
 -- Scripts that meet the hypotheses of the demands: one tree, its requests in two orders and places, one repeated and closed, each with its own log.
-use mathlib.Core.Path.{refl, sym, subst}
+use mathlib.Core.Path.{_≡_, refl, sym, subst}
 use mathlib.Core.Logic.{⊎-elim}
-use mathlib.Core.List.{List, [], _∷_, flatMap, List·Memᴰ, List·Memᴰ·head, List·Memᴰ·tail, List·Memᴰ·cases-cons, List·Memᴰ·not-nil}
+use mathlib.Core.List.{List, [], _∷_, flatMap, List·Memᴰ, List·Memᴰ·head, List·Memᴰ·tail, List·Memᴰ·cases-cons}
 use Prim.Native.Nat.{ℕ}
+use native.Mathlib.Omega.{arith}
 use Rattle.number.specs.Number.{Bytes}
 use Rattle.memo.specs.Closure.{Same}
+use Rattle.memo.proofs.Lists.{of-three}
 use Rattle.totdb.specs.declared.Side.{Side}
 use Rattle.cert.specs.Definitions.{if, only-if}
 use Rattle.cert.specs.Requests.{Request, request}
 use Rattle.cert.specs.State.{Head, State}
 use Rattle.player.specs.Called.{makes}
-use Rattle.player.specs.Player.{played}
+use Rattle.player.specs.Player.{act, played}
 use Rattle.player.specs.Script.{commandNumbers, scriptBytes}
 use Rattle.player.specs.Verdict.{Reached}
 use Rattle.player.specs.declared.Command.{Command}
 use Rattle.player.proofs.Runs.{asked, asked-from, asked-has}
 use Rattle.player.proofs.Accepted.{areShort, script-tested, accepted-reached}
 use Rattle.player.proofs.Coding.{areBytes, bytes-tested}
+use Rattle.player.proofs.Judged.{verdict-of}
 use Rattle.demands.specs.Demands.{Alike, Meets1, Meets2, Meets3, Demand1, Demand3}
+use Rattle.demands.specs.Needed.{Acts, NoneUndefined}
 use Rattle.demands.proofs.Demand1.{demand-1}
 use Rattle.demands.proofs.Demand2.{demand-2}
 use Rattle.demands.proofs.Demand3.{demand-3}
+use Rattle.demands.proofs.Needed.{desk-card, last-acts, full-acts}
 
 -- Four leaves; node 4 joins the first two, node 5 that and the third, node 6 node 5 from offset 1 on and the fourth. Of node 6 value 1, if, and value
 -- 2, only-if; of node 5 value 2, if.
@@ -59,20 +64,15 @@ unfolding five six
 second-commands =
     five (Command.Request 5 2 1 ∷ six (Command.Request 6 2 2 ∷ Command.Request 6 1 1 ∷ Command.Request 6 2 2 ∷ Command.Close ∷ []))
 
-of-three : {a b c x : Request} {xs : List Request} → List·Memᴰ a xs → List·Memᴰ b xs → List·Memᴰ c xs → List·Memᴰ x (a ∷ b ∷ c ∷ []) → List·Memᴰ x xs
-of-three {xs = xs} i j k m =
-    ⊎-elim (λ e. subst (λ (y : Request). List·Memᴰ y xs) (sym e) i)
-    (λ m. ⊎-elim (λ e. subst (λ (y : Request). List·Memᴰ y xs) (sym e) j)
-    (λ m. ⊎-elim (λ e. subst (λ (y : Request). List·Memᴰ y xs) (sym e) k) (λ m. absurd (List·Memᴰ·not-nil m)) (List·Memᴰ·cases-cons m))
-    (List·Memᴰ·cases-cons m)) (List·Memᴰ·cases-cons m)
-
 three : (a b c : Request) → Same (a ∷ b ∷ c ∷ []) (c ∷ b ∷ a ∷ b ∷ [])
 three a b c x =
     let i : List·Memᴰ a (a ∷ b ∷ c ∷ []) = List·Memᴰ·head refl in
     let j : List·Memᴰ b (a ∷ b ∷ c ∷ []) = List·Memᴰ·tail (List·Memᴰ·head refl) in
     let k : List·Memᴰ c (a ∷ b ∷ c ∷ []) = List·Memᴰ·tail (List·Memᴰ·tail (List·Memᴰ·head refl)) in (
-      of-three (List·Memᴰ·tail (List·Memᴰ·tail (List·Memᴰ·head refl))) (List·Memᴰ·tail (List·Memᴰ·head refl)) (List·Memᴰ·head refl),
-      λ m. ⊎-elim (λ e. subst (λ (y : Request). List·Memᴰ y (a ∷ b ∷ c ∷ [])) (sym e) k) (of-three j i j) (List·Memᴰ·cases-cons m),
+      of-three (λ (y : Request). List·Memᴰ y (c ∷ b ∷ a ∷ b ∷ [])) (List·Memᴰ·tail (List·Memᴰ·tail (List·Memᴰ·head refl)))
+          (List·Memᴰ·tail (List·Memᴰ·head refl)) (List·Memᴰ·head refl) x,
+      λ m. ⊎-elim (λ e. subst (λ (y : Request). List·Memᴰ y (a ∷ b ∷ c ∷ [])) (sym e) k) (of-three (λ (y : Request). List·Memᴰ y (a ∷ b ∷ c ∷ [])) j i j x)
+          (List·Memᴰ·cases-cons m),
     )
 
 pub first-bytes : Bytes first
@@ -110,3 +110,21 @@ proved = demand-2 .passes first 600 head first-commands (reached .0) first-bytes
 pub matched : Meets3 head first-commands second-commands (played first 600) (played second 700)
 unfolding Demand3
 matched = demand-3 first second 600 700 head first-commands second-commands first-bytes second-bytes alike
+
+-- Document 02, §7, of its last command; and of the one that question 14 refuses where the log is too short.
+pub last : (c : Command) × (u : State) × Acts first 600 c u
+unfolding first-commands
+last = last-acts (reached .1) (λ e. absurd (let z : _≡_ {A = ℕ} 0 1 = cc in omega arith))
+
+pub last-needs : NoneUndefined (act (last .0) (last .1))
+last-needs = desk-card .needed first 600 (last .0) (last .1) (last .2)
+
+pub too-short : played first 100 .number ≡ 14
+unfolding first played
+too-short = refl
+
+pub full : (s : State) × (c : Command) × Acts first 100 c s
+full = let v = verdict-of first 100 first-bytes in let a = full-acts too-short (v .1) in (v .0, a .0, a .1)
+
+pub full-needs : NoneUndefined (act (full .1) (full .0))
+full-needs = desk-card .needed first 100 (full .1) (full .0) (full .2)

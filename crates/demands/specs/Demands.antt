@@ -1,6 +1,5 @@
 -- The three demands as claims about scripts of bytes, each below its words. Their proofs are in proofs/.
 use mathlib.Core.Path.{_≡_}
-use mathlib.Core.Logic.{_≢_}
 use mathlib.Core.List.{List, [], flatMap, List·Memᴰ, List·Nodup, Perm}
 use mathlib.Core.Option.{some}
 use Prim.Native.Nat.{ℕ, _+_}
@@ -41,13 +40,12 @@ pub record Reports (capacity : ℕ) (o : Outcome) (s : State) : Type 0 where
 -- and the log holds exactly the records of the commands before the refused one, then zeros." (Which memory is touched is a matter of the
 -- code, not of these definitions.)
 
--- Number and place are those of document 01's questions, and of no other; the outcome reports the state that the commands before leave. No script gets 13.
+-- Number and place are those of document 01's questions, and of no other; the outcome reports the state that the commands before leave.
 pub record Meets1 (bs : List ℕ) (capacity : ℕ) (o : Outcome) : Type 0 where
   pub state : State
   pub verdict : Verdict bs capacity (o .number) (o .place) state
   pub reports : Reports capacity o state
   pub only : (n p : ℕ) (s : State) → Verdict bs capacity n p s → (n ≡ o .number) × (p ≡ o .place) × Reports capacity o s
-  pub not-13 : o .number ≢ 13
 
 unfoldable pub Demand1 : Type 0
 Demand1 = (bs : List ℕ) (capacity : ℕ) → Bytes bs → Meets1 bs capacity (played bs capacity)

@@ -10,9 +10,10 @@ use types.Run.{OneOf}
 use Rattle.pb.specs.Rules.{Token, saturate}
 use Rattle.record.specs.Record.{clause, derivation, numbers, tokenNumbers}
 use Rattle.record.proofs.Tokens.{tokens-append}
-use Rattle.cert.specs.Definitions.{Key, Definition, nothing, axiom-of, stored, lacking, addSequence}
+use Rattle.cert.specs.Definitions.{Key, Definition, nothing, axiom-of, stored, addSequence}
 use Rattle.derivation.specs.Operands.{operand, part, stepTokens, tokens}
-use Rattle.cert.specs.Requests.{Clause, clauseTokens, defTokens}
+use Rattle.totdb.specs.Nodes.{Node}
+use Rattle.cert.specs.Requests.{Clause, definition, clauseTokens, defTokens}
 use Rattle.derivation.specs.declared.Part.{Part}
 use Rattle.derivation.specs.declared.SemDefinition.{SemDefinition}
 use Rattle.derivation.specs.declared.SemDefinition.the-variants.{None, Step, Axiom}
@@ -82,12 +83,17 @@ unfolding tokens operand defTokens
 operand-tokens at-step nothing = refl
 operand-tokens at-step (axiom-of l) = refl
 operand-tokens at-step (stored k i) = refl
-operand-tokens at-step lacking = refl
 
-pub clause-step : (at-step : Key → ℕ → ℕ) (c : Clause)
-    → stepTokens (operand at-step (c .this)) (operand at-step (c .left)) (operand at-step (c .right)) ≡ clauseTokens at-step c
+pub clause-step : (at-step : Key → ℕ → ℕ) (t : List Node) (c : Clause)
+    → stepTokens (operand at-step (definition t (c .this))) (operand at-step (definition t (c .left))) (operand at-step (definition t (c .right)))
+    ≡ clauseTokens at-step t c
 unfolding stepTokens clauseTokens
-clause-step at-step c = rw (operand-tokens at-step (c .this), operand-tokens at-step (c .left), operand-tokens at-step (c .right))
+clause-step at-step t c =
+    rw (
+      operand-tokens at-step (definition t (c .this)),
+      operand-tokens at-step (definition t (c .left)),
+      operand-tokens at-step (definition t (c .right)),
+    )
 
 -- ---- a clause
 

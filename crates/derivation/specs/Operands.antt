@@ -4,7 +4,7 @@ use mathlib.Core.List.{List, [], _∷_}
 use Prim.Native.Nat.{ℕ, _+_}
 use lib.Dec.{ltb}
 use Rattle.pb.specs.Rules.{Token, step, literal}
-use Rattle.cert.specs.Definitions.{Key, Definition, nothing, axiom-of, stored, lacking, addSequence}
+use Rattle.cert.specs.Definitions.{Key, Definition, nothing, axiom-of, stored, addSequence}
 use Rattle.cert.specs.Requests.{stepSequence}
 use Rattle.derivation.specs.declared.Part.{Part}
 use Rattle.derivation.specs.declared.Part.the-variants.{Absent, Literal}
@@ -16,7 +16,6 @@ unfoldable pub operand : (Key → ℕ → ℕ) → Definition → SemDefinition
 operand at-step nothing = None
 operand at-step (axiom-of l) = Axiom l
 operand at-step (stored k i) = Step (at-step k i)
-operand at-step lacking = None
 
 unfoldable pub tokens : SemDefinition → List Token
 tokens None = []

@@ -2,7 +2,7 @@
 use mathlib.Core.Path.{_≡_, refl, sym, _∙_, ap, subst}
 use mathlib.Core.HLevel.{⊥-prop}
 use mathlib.Core.Logic.{_⊎_, inl, inr, ⊎-elim, dite, ∥∥₁-elim, ∥∥₁-map}
-use mathlib.Core.List.{List, [], _∷_, _++_, map, flatMap, append-assoc, List·Mem, List·Memᴰ, List·Memᴰ·head, List·Memᴰ·tail, List·Memᴰ·cases-cons, List·Memᴰ·not-nil, List·Memᴰ·append-cases, Memᴰ·append-left, Memᴰ·append-right, Memᴰ·cast, Memᴰ·of-map, List·Permᴰ, List·Permᴰ·nil, List·Permᴰ·cons, List·Permᴰ·swap, List·Permᴰ·trans, Permᴰ·append-left, Permᴰ·append-right, List·Permᴰ·append-comm, Perm, List·Nodup, nodup-nil, nodup-cons, nodup-append, perm-ext-iff-of-nodup}
+use mathlib.Core.List.{List, [], _∷_, _++_, map, flatMap, append-assoc, List·Mem, List·Memᴰ, List·Memᴰ·head, List·Memᴰ·tail, List·Memᴰ·cases-cons, List·Memᴰ·eq-of-singleton, List·Memᴰ·not-nil, List·Memᴰ·append-cases, Memᴰ·append-left, Memᴰ·append-right, Memᴰ·cast, Memᴰ·of-map, List·Permᴰ, List·Permᴰ·nil, List·Permᴰ·cons, List·Permᴰ·swap, List·Permᴰ·trans, Permᴰ·append-left, Permᴰ·append-right, List·Permᴰ·append-comm, Perm, List·Nodup, nodup-nil, nodup-cons, nodup-append, perm-ext-iff-of-nodup}
 use Prim.Native.Nat.{suc}
 use native.Mathlib.Nat.{ℕ-set}
 use lib.ListN.{length}
@@ -66,6 +66,12 @@ module _ {A : Type 0} where
 
   pub length-perm : {xs ys : List A} → Perm xs ys → length xs ≡ length ys
   length-perm {xs} {ys} p = ∥∥₁-elim p (ℕ-set (length xs) (length ys)) length-permᴰ
+
+  -- What holds of three holds of each.
+  pub of-three : (P : A → Type 0) {a b c : A} → P a → P b → P c → (x : A) → List·Memᴰ x (a ∷ b ∷ c ∷ []) → P x
+  of-three P p q r x m =
+      ⊎-elim (λ e. subst P (sym e) p) (λ i. ⊎-elim (λ e. subst P (sym e) q) (λ j. subst P (sym (List·Memᴰ·eq-of-singleton j)) r) (List·Memᴰ·cases-cons i))
+      (List·Memᴰ·cases-cons m)
 
 module _ {A B : Type 0} where
   pub mem-flatMap : (f : A → List B) {a : A} {b : B} {l : List A} → List·Memᴰ a l → List·Memᴰ b (f a) → List·Memᴰ b (flatMap f l)

@@ -1,16 +1,16 @@
 -- The step that a clause record names comes to the clause, in every accepted log.
 use mathlib.Core.Path.{_≡_, refl, sym, _∙_, ap, subst}
 use mathlib.Core.Bool.{Bool, true, false}
-use mathlib.Core.Logic.{_≢_, dite, ⊎-elim}
-use mathlib.Core.List.{List, [], _∷_, _++_, append-nil, List·Memᴰ, List·Memᴰ·head, List·Memᴰ·tail, List·Memᴰ·not-nil, List·Memᴰ·cases-cons, List·Memᴰ·append-cases, List·Memᴰ·eq-of-singleton, Memᴰ·append-left, Memᴰ·append-right, Memᴰ·of-map}
+use mathlib.Core.Logic.{_≢_, ⊎-elim}
+use mathlib.Core.List.{List, [], _∷_, _++_, append-nil, List·Memᴰ, List·Memᴰ·head, List·Memᴰ·tail, List·Memᴰ·not-nil, List·Memᴰ·cases-cons, List·Memᴰ·append-cases, List·Memᴰ·eq-of-singleton, Memᴰ·append-left}
 use mathlib.Core.Option.{Option, none, some}
 use Prim.Native.Nat.{ℕ, zero, suc, _+_, _-_, _≤_, _<_}
-use native.Mathlib.Decide.{decLe}
 use native.Mathlib.Numerals.{add-one}
 use native.Mathlib.Omega.{arith}
 use lib.Dec.{ltb}
 use lib.ListN.{length, getD}
 use lib.Seq.{getD-append-add}
+use Rattle.memo.proofs.Lists.{mem-flatMap}
 use Rattle.pb.specs.Rules.{Token, evaluate}
 use Rattle.pb.specs.Sum.{Sum, normal, variable, units, clauseSum}
 use Rattle.pb.proofs.Normal.{Off, Apart}
@@ -19,15 +19,17 @@ use Rattle.record.specs.Steps.{stepSum, sumsAfter, stepOf}
 use Rattle.record.proofs.Steps.{sums-append, step-known}
 use Rattle.totdb.specs.Nodes.{Node, leaf, join, at, leaves, len, output, sideLen, sideLit, sideLeaves, known, joined}
 use Rattle.totdb.specs.declared.Side.{Side}
-use Rattle.cert.specs.Definitions.{Key, Definition, if, only-if, Direction, real, stored, lacking, realDef, sideDef, pulls, keyRecords}
-use Rattle.cert.specs.Requests.{Request, request, Clause, ifClause, onlyIfClause, clausesAt, clausesOf, splits, keyOf, looksOf, defTokens, clauseTokens, Right}
+use Rattle.cert.specs.Definitions.{Key, Definition, if, only-if, Direction, real, stored, realDef, sideDef, pulls, keyRecords}
+use Rattle.cert.specs.Requests.{Request, request, Lookup, of-node, Clause, ifClause, onlyIfClause, clausesOf, splits, definition, keyOf, lookedUp, looksOf, defTokens, clauseTokens, Right}
 use Rattle.cert.specs.Sized.{Fit, Sized}
 use Rattle.cert.specs.State.{State, keys, stepIn, define, write, hold, serve, start, requests, Head, storedSteps}
 use Rattle.cert.proofs.Apart.{splits-mem}
+use Rattle.cert.proofs.Available.{Available, node-if-from, node-only-if-to, clause-available}
 use Rattle.cert.proofs.ClauseDerivations.{if-evaluates, only-if-evaluates, if-literals, only-literals}
 use Rattle.cert.proofs.Distinct.{Different, Distinct, LeftApart, different-apart, off-units}
 use Rattle.cert.proofs.Fits.{KeyFits, request-falls, key-falls, looked-fit}
 use Rattle.cert.proofs.Known.{KnownIn, knownOf, known-define, known-more, real-ready}
+use Rattle.cert.proofs.Rules.{ClauseForm, an-if, an-only-if, clause-form}
 use Rattle.cert.proofs.Serving.{define-keys, key-no-clauses, Asked, serve-keeps}
 use Rattle.cert.proofs.SideTokens.{node-off, side-only, side-if}
 use Rattle.cert.proofs.Totalizer.{real-if, real-only-if}
@@ -54,43 +56,44 @@ off-right x (l ∷ ls) rs h = off-right x ls rs (h .1)
 
 -- ---- one clause, where its definitions are stored
 
--- The two real definitions of a value from 1 to the length.
-this-if : (m n v : ℕ) → 1 ≤ v → realDef m n v if ≡ stored (real n v) 0
+-- The two real definitions of a value from 1 on.
+this-if : (n v : ℕ) → 1 ≤ v → realDef n v if ≡ stored (real n v) 0
 unfolding realDef
-this-if m n zero h = absurd (omega arith)
-this-if m n (suc v) h = refl
+this-if n zero h = absurd (omega arith)
+this-if n (suc v) h = refl
 
-this-only : (m n v : ℕ) → 1 ≤ v → v ≤ m → realDef m n v only-if ≡ stored (real n v) 1
+this-only : (n v : ℕ) → 1 ≤ v → realDef n v only-if ≡ stored (real n v) 1
 unfolding realDef
-this-only m n zero h g = absurd (omega arith)
-this-only m n (suc v) h g = by (decLe (suc v) m)
-  where
-    by : (c : Dec (suc v ≤ m)) → dite {C = Definition} c (λ _. stored (real n (suc v)) 1) (λ _. lacking) ≡ stored (real n (suc v)) 1
-    by (yes e) = refl
-    by (no e) = absurd (e g)
+this-only n zero h = absurd (omega arith)
+this-only n (suc v) h = refl
 
 -- The keys of a definition, and of all that a clause looks up, are stored.
 abbrev Has : State → Definition → Type 0
 Has s d = (j : Key) → List·Memᴰ j (keyOf d) → List·Memᴰ j (keys s)
 
-abbrev HasAll : State → Clause → Type 0
-HasAll s c = (j : Key) → List·Memᴰ j (looksOf c) → List·Memᴰ j (keys s)
+abbrev HasAll : List Node → State → Clause → Type 0
+HasAll t s c = (j : Key) → List·Memᴰ j (looksOf t c) → List·Memᴰ j (keys s)
+
+abbrev AllAvailable : List Node → Clause → Type 0
+AllAvailable t c = (l : Lookup) → List·Memᴰ l (lookedUp c) → Available t l
 
 -- With a key stands all that it pulls in.
 abbrev Closed : State → Type 0
 Closed s = (i j : Key) → List·Memᴰ i (keys s) → List·Memᴰ j (pulls i) → List·Memᴰ j (keys s)
 
 -- The derivation that is written for a clause comes to it.
-abbrev ComesTo : Head → State → Clause → Type 0
-ComesTo h s c = evaluate (stepSum (h .step) (knownOf h s)) (clauseTokens (stepIn (s .stored)) c) ≡ some (normal (clauseSum (c .literals)))
+abbrev ComesTo : Head → List Node → State → Clause → Type 0
+ComesTo h t s c = evaluate (stepSum (h .step) (knownOf h s)) (clauseTokens (stepIn (s .stored)) t c) ≡ some (normal (clauseSum (c .literals)))
 
-has-parts : (s : State) (c : Clause) → HasAll s c → Has s (c .left) × Has s (c .right) × Has s (c .this)
+has-parts : (t : List Node) (s : State) (c : Clause) → HasAll t s c
+    → Has s (definition t (c .left)) × Has s (definition t (c .right)) × Has s (definition t (c .this))
 unfolding looksOf
-has-parts s c has = (
-  λ j m. has j (Memᴰ·append-left (keyOf (c .this)) (Memᴰ·append-left (keyOf (c .right)) m)),
-  λ j m. has j (Memᴰ·append-left (keyOf (c .this)) (Memᴰ·append-right (keyOf (c .left)) m)),
-  λ j m. has j (Memᴰ·append-right (keyOf (c .left) ++ keyOf (c .right)) m),
-)
+has-parts t s c has =
+    let keys-of : Lookup → List Key = λ l. keyOf (definition t l) in
+    let left : List·Memᴰ (c .left) (lookedUp c) = List·Memᴰ·head refl in
+    let right : List·Memᴰ (c .right) (lookedUp c) = List·Memᴰ·tail (List·Memᴰ·head refl) in
+    let this : List·Memᴰ (c .this) (lookedUp c) = List·Memᴰ·tail (List·Memᴰ·tail (List·Memᴰ·head refl)) in
+    (λ j m. has j (mem-flatMap keys-of left m), λ j m. has j (mem-flatMap keys-of right m), λ j m. has j (mem-flatMap keys-of this m))
 
 has-one : (s : State) (d : Definition) (j : Key) (i : ℕ) → d ≡ stored j i → Has s d → List·Memᴰ j (keys s)
 unfolding keyOf
@@ -160,13 +163,13 @@ module _ (h : Head) (t : List Node) (sz : Sized t) (d : Distinct t) (s : State) 
           (real-ready h t d s k n v low high (has-one s e (real n v) i q has) [] i (getD reals i none) g refl)
 
       if-comes : (a : ℕ) → List·Memᴰ a (splits v (sideLen t l) (sideLen t r))
-          → HasAll s (ifClause t n (at t n) l r v a) → ComesTo h s (ifClause t n (at t n) l r v a)
-      unfolding ifClause clauseTokens Fit reals
-      if-comes a i has =
+          → AllAvailable t (ifClause t n (at t n) l r v a) → HasAll t s (ifClause t n (at t n) l r v a) → ComesTo h t s (ifClause t n (at t n) l r v a)
+      unfolding ifClause definition clauseTokens Fit reals
+      if-comes a i av has =
           let b : ℕ = v - a in
           let p = splits-mem v (sideLen t l) (sideLen t r) a i in
-          let z = has-parts s (ifClause t n (at t n) l r v a) has in
-          let this = this-if (len (at t n)) n v low in
+          let z = has-parts t s (ifClause t n (at t n) l r v a) has in
+          let this = this-if n v low in
           let nl = sideLeaves-length t l in
           let nr = sideLeaves-length t r in
           let y = output (at t n) v in
@@ -176,10 +179,10 @@ module _ (h : Head) (t : List Node) (sz : Sized t) (d : Distinct t) (s : State) 
           (defs (sideDef t r b only-if))
           (sideLeaves t l) (sideLeaves t r) y (sideLit t l a) (sideLit t r b) v a b (omega (arith, nl, p))
           (omega (arith, nr, p)) apart-right own-right
-          (rw (← whole) (this-step 0 (omega arith) (realDef (len (at t n)) n v if) this (z .2)))
+          (rw (← whole) (this-step 0 (omega arith) (realDef n v if) this (z .2)))
           (rw (← whole) (real-if-clean (leaves (at t n)) y apart-whole own v))
-          (side-only h t sz d s k closed l (omega (arith, fit .0)) (fit .3) (fit .7) a (p .1) (z .0))
-          (side-only h t sz d s k closed r (omega (arith, fit .1)) (fit .4) (fit .8) b (omega (arith, p)) (z .1))
+          (side-only h t sz d s k closed l (omega (arith, fit .0)) (fit .3) (fit .7) a (av _ (List·Memᴰ·head refl)) (z .0))
+          (side-only h t sz d s k closed r (omega (arith, fit .1)) (fit .4) (fit .8) b (av _ (List·Memᴰ·tail (List·Memᴰ·head refl))) (z .1))
           (omega (arith, p))
           (λ q. side-this l (fit .0) (fit .3) a v (omega arith) (p .1) low high)
           (λ q. side-this r (fit .1) (fit .4) b v (omega arith) (omega (arith, p)) low high)
@@ -188,13 +191,14 @@ module _ (h : Head) (t : List Node) (sz : Sized t) (d : Distinct t) (s : State) 
           ∙ ap (λ (c : List ℕ). some (normal (clauseSum c))) (if-literals t l r a b y))
 
       only-if-comes : (a : ℕ) → List·Memᴰ a (splits (v - 1) (sideLen t l) (sideLen t r))
-          → HasAll s (onlyIfClause t n (at t n) l r v a) → ComesTo h s (onlyIfClause t n (at t n) l r v a)
-      unfolding onlyIfClause clauseTokens Fit reals
-      only-if-comes a i has =
+          → AllAvailable t (onlyIfClause t n (at t n) l r v a) → HasAll t s (onlyIfClause t n (at t n) l r v a)
+          → ComesTo h t s (onlyIfClause t n (at t n) l r v a)
+      unfolding onlyIfClause definition clauseTokens Fit reals
+      only-if-comes a i av has =
           let b : ℕ = v - 1 - a in
           let p = splits-mem (v - 1) (sideLen t l) (sideLen t r) a i in
-          let z = has-parts s (onlyIfClause t n (at t n) l r v a) has in
-          let this = this-only (len (at t n)) n v low high in
+          let z = has-parts t s (onlyIfClause t n (at t n) l r v a) has in
+          let this = this-only n v low in
           let nl = sideLeaves-length t l in
           let nr = sideLeaves-length t r in
           let y = output (at t n) v in
@@ -204,10 +208,10 @@ module _ (h : Head) (t : List Node) (sz : Sized t) (d : Distinct t) (s : State) 
           (defs (sideDef t r (suc b) if))
           (sideLeaves t l) (sideLeaves t r) y (sideLit t l (suc a)) (sideLit t r (suc b)) v a b (omega (arith, nl, p))
           (omega (arith, nr, p)) apart-right own-right
-          (rw (← whole) (this-step 1 (omega arith) (realDef (len (at t n)) n v only-if) this (z .2)))
+          (rw (← whole) (this-step 1 (omega arith) (realDef n v only-if) this (z .2)))
           (rw (← whole) (real-only-clean (leaves (at t n)) y apart-whole own v))
-          (rw (add-one a) (side-if h t sz d s k closed l (omega (arith, fit .0)) (fit .3) (fit .7) (suc a) (omega arith) (omega (arith, p)) (z .0)))
-          (rw (add-one b) (side-if h t sz d s k closed r (omega (arith, fit .1)) (fit .4) (fit .8) (suc b) (omega arith) (omega (arith, p)) (z .1)))
+          (rw (add-one a) (side-if h t sz d s k closed l (omega (arith, fit .0)) (fit .3) (fit .7) (suc a) (av _ (List·Memᴰ·head refl)) (omega (arith, p)) (z .0)))
+          (rw (add-one b) (side-if h t sz d s k closed r (omega (arith, fit .1)) (fit .4) (fit .8) (suc b) (av _ (List·Memᴰ·tail (List·Memᴰ·head refl))) (omega (arith, p)) (z .1)))
           (omega (arith, p))
           (λ q. side-this l (fit .0) (fit .3) (suc a) v (omega arith) (omega (arith, nl)) low high)
           (λ q. side-this r (fit .1) (fit .4) (suc b) v (omega arith) (omega (arith, nr)) low high)
@@ -216,20 +220,20 @@ module _ (h : Head) (t : List Node) (sz : Sized t) (d : Distinct t) (s : State) 
           ∙ rw (nl, nr) (ap (λ (c : List ℕ). some (normal (clauseSum c))) (only-literals t l r a b y)))
 
   -- Every clause of a right request.
-  clause-comes : (x : Request) (c : Clause) → Right t x → List·Memᴰ c (clausesOf t x) → HasAll s c → ComesTo h s c
-  unfolding clausesOf clausesAt Right
-  clause-comes (request n v dir) c g m = go (at t n) dir refl m
+  clause-comes : (x : Request) (c : Clause) → Right t x → List·Memᴰ c (clausesOf t x) → HasAll t s c → ComesTo h t s c
+  unfolding clausesOf Right ifClause onlyIfClause
+  clause-comes (request n v dir) c g m = go refl (clause-form t n v (at t n) dir c m) (clause-available t (request n v dir) c g m)
     where
-      go : (x : Node) (dir : Direction) → at t n ≡ x → List·Memᴰ c (clausesAt t n x v dir) → HasAll s c → ComesTo h s c
-      go (leaf l) dir e m = absurd (List·Memᴰ·not-nil m)
-      go (join ls o l r) if e m =
-          let i = Memᴰ·of-map (ifClause t n (join ls o l r) l r v) (splits v (sideLen t l) (sideLen t r)) m in
-          let q : ifClause t n (at t n) l r v (i .0) ≡ c = ap (λ (y : Node). ifClause t n y l r v (i .0)) e ∙ i .2 in
-          subst (λ (c : Clause). HasAll s c → ComesTo h s c) q (if-comes n ls o l r (g .0) e v (g .1) (g .2) (i .0) (i .1))
-      go (join ls o l r) only-if e m =
-          let i = Memᴰ·of-map (onlyIfClause t n (join ls o l r) l r v) (splits (v - 1) (sideLen t l) (sideLen t r)) m in
-          let q : onlyIfClause t n (at t n) l r v (i .0) ≡ c = ap (λ (y : Node). onlyIfClause t n y l r v (i .0)) e ∙ i .2 in
-          subst (λ (c : Clause). HasAll s c → ComesTo h s c) q (only-if-comes n ls o l r (g .0) e v (g .1) (g .2) (i .0) (i .1))
+      own : {l r a : Lookup} → List·Memᴰ a (l ∷ r ∷ a ∷ [])
+      own = List·Memᴰ·tail (List·Memᴰ·tail (List·Memᴰ·head refl))
+
+      go : {x : Node} {dir : Direction} {c : Clause} → at t n ≡ x → ClauseForm t n v x dir c → AllAvailable t c → HasAll t s c → ComesTo h t s c
+      go e (an-if {ls = ls} {o = o} {l = l} {r = r} a m) av =
+          subst (λ (y : Node). let c = ifClause t n y l r v a in AllAvailable t c → HasAll t s c → ComesTo h t s c) e
+          (if-comes n ls o l r (g .0) e v (node-if-from v (av (of-node n v if) own)) (g .2) a m) av
+      go e (an-only-if {ls = ls} {o = o} {l = l} {r = r} a m) av =
+          subst (λ (y : Node). let c = onlyIfClause t n y l r v a in AllAvailable t c → HasAll t s c → ComesTo h t s c) e
+          (only-if-comes n ls o l r (g .0) e v (g .1) (node-only-if-to v (av (of-node n v only-if) own)) a m) av
 
 -- ---- later records
 
@@ -291,8 +295,8 @@ closed-define t k s b c i j m n =
     rw (define-keys t k s) (Memᴰ·append-left (k ∷ []) (⊎-elim (λ x. c i j x n) (λ x. new (List·Memᴰ·eq-of-singleton x)) one))
 
 -- The records of a clause.
-abbrev clauseRecords : State → Clause → List Record
-clauseRecords s c = derivation (clauseTokens (stepIn (s .stored)) c) ∷ clause (s .next-step) (c .literals) ∷ []
+abbrev clauseRecords : List Node → State → Clause → List Record
+clauseRecords t s c = derivation (clauseTokens (stepIn (s .stored)) t c) ∷ clause (s .next-step) (c .literals) ∷ []
 
 module _ (h : Head) (t : List Node) (sz : Sized t) (d : Distinct t) (s : State) (k : Stepped h t s) where
   -- More records that store nothing.
@@ -317,23 +321,23 @@ module _ (h : Head) (t : List Node) (sz : Sized t) (d : Distinct t) (s : State) 
       }
 
   -- The clause's own step is the next one.
-  write-come : (c : Clause) → ComesTo h s c → Come h (write c s) (clauseRecords s c)
+  write-come : (c : Clause) → ComesTo h t s c → Come h (write t c s) (clauseRecords t s c)
   write-come c e n ls m =
       ⊎-elim (λ q. absurd (let z : _≡_ {A = ℕ} 0 1 = cc in omega arith)) (λ i. at-next (List·Memᴰ·eq-of-singleton i)) (List·Memᴰ·cases-cons m)
     where
-      known-is : knownOf h (write c s) ≡ knownOf h s ++ (evaluate (stepSum (h .step) (knownOf h s)) (clauseTokens (stepIn (s .stored)) c) ∷ [])
-      known-is = unfold write sumsAfter in sums-append (h .step) [] (s .log) (clauseRecords s c)
+      known-is : knownOf h (write t c s) ≡ knownOf h s ++ (evaluate (stepSum (h .step) (knownOf h s)) (clauseTokens (stepIn (s .stored)) t c) ∷ [])
+      known-is = unfold write sumsAfter in sums-append (h .step) [] (s .log) (clauseRecords t s c)
 
-      at-next : clause n ls ≡ clause (s .next-step) (c .literals) → stepSum (h .step) (knownOf h (write c s)) n ≡ some (normal (clauseSum ls))
+      at-next : clause n ls ≡ clause (s .next-step) (c .literals) → stepSum (h .step) (knownOf h (write t c s)) n ≡ some (normal (clauseSum ls))
       at-next q =
           let x : n ≡ s .next-step = cc in
           let y : ls ≡ c .literals = cc in
           let z : n ≡ h .step + (length (knownOf h s) + 0) = omega (arith, k .known-sums .next, known-length h s) in
           rw (known-is, z, y) (step-known (h .step) _ (length (knownOf h s) + 0) ∙ getD-append-add (knownOf h s) _ 0 none ∙ e)
 
-  stepped-write : (x : Request) (c : Clause) → Right t x → List·Memᴰ c (clausesOf t x) → HasAll s c → Stepped h t (write c s)
+  stepped-write : (x : Request) (c : Clause) → Right t x → List·Memᴰ c (clausesOf t x) → HasAll t s c → Stepped h t (write t c s)
   stepped-write x c g m has =
-      stepped-more (write c s) (clauseRecords s c) (unfold write in refl) (unfold write in refl) (unfold write steps in refl)
+      stepped-more (write t c s) (clauseRecords t s c) (unfold write in refl) (unfold write in refl) (unfold write steps in refl)
       (write-come c (clause-comes h t sz d s (k .known-sums) (k .kept .closed) x c g m has))
 
   stepped-hold : (x : Request) → Stepped h t (hold x s)

@@ -2,7 +2,7 @@
 use mathlib.Core.Path.{_≡_, refl, sym, ap, subst}
 use mathlib.Core.Bool.{Bool, true, false}
 use mathlib.Core.Logic.{⊎-elim, dite}
-use mathlib.Core.List.{List, [], _∷_, _++_, map, flatMap, List·Memᴰ, List·Memᴰ·head, List·Memᴰ·tail, List·Memᴰ·not-nil, List·Memᴰ·append-cases, List·Memᴰ·eq-of-singleton, Memᴰ·map, Memᴰ·of-map}
+use mathlib.Core.List.{List, [], _∷_, _++_, map, flatMap, List·Memᴰ, List·Memᴰ·head, List·Memᴰ·tail, List·Memᴰ·not-nil, List·Memᴰ·append-cases, List·Memᴰ·eq-of-singleton, Memᴰ·map}
 use mathlib.Core.Option.{some}
 use Prim.Native.Nat.{ℕ, zero, suc, _+_, _-_, _*_, _≤_, _<_, _^_}
 use native.Mathlib.Decide.{decLe}
@@ -17,15 +17,16 @@ use Rattle.record.proofs.Decode.{Small, decode-bytes}
 use Rattle.totdb.specs.Nodes.{Node, len, leaf, join, output, leaves, at, sideLen, sideLit, sideOutputs, outputs, range, plainOr, sideLeaves, known, joined}
 use Rattle.totdb.specs.declared.Side.{Side}
 use Rattle.cert.specs.Counted.{Counted}
-use Rattle.cert.specs.Definitions.{Definition, lacking, Direction, oneDef, if, only-if, realDef, stored, real, windowDef, window, sideDef, definedBy, Key, window-zero, keyRecords}
+use Rattle.cert.specs.Definitions.{Direction, oneDef, if, only-if, realDef, stored, real, windowDef, window, sideDef, definedBy, Key, window-zero, keyRecords}
 use Rattle.cert.specs.Equal.{key-dec}
-use Rattle.cert.specs.Requests.{negPart, posPart, Clause, Request, clausesOf, clausesAt, request, ifClause, splits, onlyIfClause, clauseTokens, Right}
+use Rattle.cert.specs.Requests.{negPart, posPart, Clause, definition, Request, clausesOf, request, ifClause, onlyIfClause, clauseTokens, Right}
 use Rattle.cert.specs.Sized.{Sized, Fit}
 use Rattle.cert.specs.State.{State, Stored, fromIn, stepIn, define, write, hold, serve, start, keys, requests, Head, storedSteps}
 use Rattle.cert.proofs.Apart.{range-mem, splits-mem, sized-ok}
 use Rattle.cert.proofs.Counts.{key-count, counted-start, defined-more}
 use Rattle.cert.proofs.Fits.{KeyFits, request-falls, key-falls, looked-fit}
 use Rattle.cert.proofs.Keyed.{by-form, key-most}
+use Rattle.cert.proofs.Rules.{ClauseForm, an-if, an-only-if, clause-form}
 use Rattle.cert.proofs.Serving.{serve-keeps, Asked}
 use Rattle.player.specs.Formed.{Sound, Treed}
 use Rattle.player.specs.Passes.{AllPassed, all-done, all-more}
@@ -33,7 +34,7 @@ use Rattle.player.specs.Player.{make, delete, firstNo, questions, act, h
 use Rattle.player.specs.declared.Command.{Command}
 use Rattle.player.proofs.Counts.{counted-act, all-keep}
 use Rattle.player.proofs.Formed.{head-low}
-use Rattle.player.proofs.Refusal.{start-empty, passed-fits}
+use Rattle.player.proofs.Refusal.{start-empty}
 use Rattle.player.proofs.Sound.{request-fits, requests-asked, serve-nodes, requests-right, sound-start}
 use Rattle.player.proofs.Tree.{treed-start, few-variables, treed-act}
 use Rattle.player.proofs.Values.{AllBelow, below-map, below-append, below-at, LowNode, below-mono, DefLow, values, keyRecords-below, clauseTokens-below, log-small}
@@ -105,40 +106,23 @@ low-nodes h s b p k l m n g =
 
 -- ---- the clauses of a right request are low
 
-or-low : (b : ℕ) {P : Type 0} (c : Dec P) (e : Definition) → DefLow b e → DefLow b (dite c (λ _. e) (λ _. lacking))
-unfolding DefLow
-or-low b (yes p) e h = h
-or-low b (no p) e h = tt
-
-or-low-at : (b : ℕ) {P : Type 0} (c : Dec P) (e : Definition) → (P → DefLow b e) → DefLow b (dite c (λ _. e) (λ _. lacking))
-unfolding DefLow
-or-low-at b (yes p) e h = h p
-or-low-at b (no p) e h = tt
-
-oneDef-low : (b o i : ℕ) (d : Direction) → o < b → neg o < b → DefLow b (oneDef o i d)
+oneDef-low : (b o i : ℕ) → o < b → neg o < b → DefLow b (oneDef o i)
 unfolding oneDef DefLow
-oneDef-low b o zero if h g = tt
-oneDef-low b o zero only-if h g = h
-oneDef-low b o (suc zero) d h g = tt
-oneDef-low b o (suc (suc i)) if h g = g
-oneDef-low b o (suc (suc i)) only-if h g = tt
+oneDef-low b o zero h g = h
+oneDef-low b o (suc zero) h g = tt
+oneDef-low b o (suc (suc i)) h g = g
 
-realDef-low : (b m n i : ℕ) (d : Direction) → DefLow b (realDef m n i d)
+realDef-low : (b n i : ℕ) (d : Direction) → DefLow b (realDef n i d)
 unfolding realDef DefLow
-realDef-low b m n zero if = tt
-realDef-low b m n zero only-if = omega arith
-realDef-low b m n (suc v) if = omega arith
-realDef-low b m n (suc v) only-if = or-low b (decLe (suc v) m) (stored (real n (suc v)) 1) (unfold DefLow in omega arith)
+realDef-low b n zero d = omega arith
+realDef-low b n (suc v) if = omega arith
+realDef-low b n (suc v) only-if = omega arith
 
 windowDef-low : (b n f m v : ℕ) (d : Direction) → m ≤ 64 → v ≤ f + m + 1 → DefLow b (windowDef n f m v d)
 unfolding windowDef DefLow
-windowDef-low b n f m zero if h g = tt
-windowDef-low b n f m zero only-if h g = omega arith
+windowDef-low b n f m zero d h g = omega arith
 windowDef-low b n f m (suc v) if h g = omega arith
-windowDef-low b n f m (suc v) only-if h g = or-low-at b (decLe (suc v) (f + m)) (stored (window n f m) (2 * (v - f) + 2)) (λ e. place v e)
-  where
-    place : (v : ℕ) → suc v ≤ f + m → DefLow b (stored (window n f m) (2 * (v - f) + 2))
-    place v e = omega arith
+windowDef-low b n f m (suc v) only-if h g = omega arith
 
 module _ (t : List Node) (b : ℕ) (low : (n : ℕ) → n < length t → LowNode b (at t n)) (short : (n : ℕ) → n < length t → len (at t n) ≤ 64) where
   lit-low : (s : Side) → s .node < length t → s .offset + sideLen t s ≤ len (at t (s .node)) → (i : ℕ) → 1 ≤ i → i ≤ sideLen t s → (sideLit t s i < b)
@@ -149,8 +133,8 @@ module _ (t : List Node) (b : ℕ) (low : (n : ℕ) → n < length t → LowNode
   sideDef-low : (s : Side) (i : ℕ) (d : Direction) → s .node < length t → s .offset + sideLen t s ≤ len (at t (s .node)) → 1 ≤ sideLen t s
       → i ≤ sideLen t s + 1 → DefLow b (sideDef t s i d)
   sideDef-low s i d h f o l =
-      by-form (DefLow b) t s i d (λ _. let k = lit-low s h f 1 (omega arith) o in oneDef-low b (sideLit t s 1) i d (k .0) (k .1))
-      (λ _ _ _. realDef-low b (sideLen t s) (s .node) i d)
+      by-form (DefLow b) t s i d (λ _. let k = lit-low s h f 1 (omega arith) o in oneDef-low b (sideLit t s 1) i (k .0) (k .1))
+      (λ _ _ _. realDef-low b (s .node) i d)
       (λ _ _ v k. windowDef-low b (s .node) (s .offset) (sideLen t s) v d (omega (arith, short (s .node) h)) (omega (arith, key-most i k)))
 
   negPart-low : (s : Side) → s .node < length t → s .offset + sideLen t s ≤ len (at t (s .node)) → (i : ℕ) → i ≤ sideLen t s
@@ -168,46 +152,43 @@ module _ (t : List Node) (b : ℕ) (low : (n : ℕ) → n < length t → LowNode
       by (no p) = unfold AllBelow in tt
 
   pub record ClauseLow (c : Clause) : Type 0 where
-    pub left : DefLow b (c .left)
-    pub right : DefLow b (c .right)
-    pub this : DefLow b (c .this)
+    pub left : DefLow b (definition t (c .left))
+    pub right : DefLow b (definition t (c .right))
+    pub this : DefLow b (definition t (c .this))
     pub literals : AllBelow b (c .literals)
 
   pub clause-low : Sized t → (x : Request) (c : Clause) → Right t x → List·Memᴰ c (clausesOf t x) → ClauseLow c
-  unfolding clausesOf clausesAt Right Fit Sized
-  clause-low sz (request n v d) c g m = go (at t n) refl d (sz n (g .0)) m
+  unfolding clausesOf Right Fit Sized definition ifClause onlyIfClause
+  clause-low sz (request n v d) c g m = go refl (sz n (g .0)) (clause-form t n v (at t n) d c m)
     where
       out : (y : Node) → at t n ≡ y → (output y v < b) × (neg (output y v) < b)
       out y e = rw (← e) (omega (arith, low n (g .0) .outs v (g .1) (g .2)))
 
-      go : (y : Node) → at t n ≡ y → (d : Direction) → Fit t n y → List·Memᴰ c (clausesAt t n y v d) → ClauseLow c
-      go (leaf a) e d f m = absurd (List·Memᴰ·not-nil m)
-      go (join ls o l r) e if f m =
-          let j = Memᴰ·of-map (ifClause t n (join ls o l r) l r v) (splits v (sideLen t l) (sideLen t r)) m in
-          let q = splits-mem v (sideLen t l) (sideLen t r) (j .0) (j .1) in
+      go : {y : Node} {d : Direction} {c : Clause} → at t n ≡ y → Fit t n y → ClauseForm t n v y d c → ClauseLow c
+      go e f (an-if {ls = ls} {o = o} {l = l} {r = r} a m) =
+          let q = splits-mem v (sideLen t l) (sideLen t r) a m in
           let hl : l .node < length t = omega (arith, f .0, g .0) in
           let hr : r .node < length t = omega (arith, f .1, g .0) in
-          subst ClauseLow (j .2) (unfold ifClause in record {
-            left = sideDef-low l (j .0) only-if hl (f .3) (f .7) (omega (arith, q));
-            right = sideDef-low r (v - j .0) only-if hr (f .4) (f .8) (omega (arith, q));
-            this = realDef-low b (len (join ls o l r)) n v if;
-            literals = below-append b (negPart t l (j .0) ++ negPart t r (v - j .0)) (output (join ls o l r) v ∷ [])
-                (below-append b (negPart t l (j .0)) (negPart t r (v - j .0)) (negPart-low l hl (f .3) (j .0) (q .1))
-                (negPart-low r hr (f .4) (v - j .0) (omega (arith, q)))) (unfold AllBelow in (out (join ls o l r) e .0, tt));
-          })
-      go (join ls o l r) e only-if f m =
-          let j = Memᴰ·of-map (onlyIfClause t n (join ls o l r) l r v) (splits (v - 1) (sideLen t l) (sideLen t r)) m in
-          let q = splits-mem (v - 1) (sideLen t l) (sideLen t r) (j .0) (j .1) in
+          record {
+            left = sideDef-low l a only-if hl (f .3) (f .7) (omega (arith, q));
+            right = sideDef-low r (v - a) only-if hr (f .4) (f .8) (omega (arith, q));
+            this = realDef-low b n v if;
+            literals = below-append b (negPart t l a ++ negPart t r (v - a)) (output (join ls o l r) v ∷ [])
+                (below-append b (negPart t l a) (negPart t r (v - a)) (negPart-low l hl (f .3) a (q .1)) (negPart-low r hr (f .4) (v - a) (omega (arith, q))))
+                (unfold AllBelow in (out (join ls o l r) e .0, tt));
+          }
+      go e f (an-only-if {ls = ls} {o = o} {l = l} {r = r} a m) =
+          let q = splits-mem (v - 1) (sideLen t l) (sideLen t r) a m in
           let hl : l .node < length t = omega (arith, f .0, g .0) in
           let hr : r .node < length t = omega (arith, f .1, g .0) in
-          subst ClauseLow (j .2) (unfold onlyIfClause in record {
-            left = sideDef-low l (suc (j .0)) if hl (f .3) (f .7) (omega (arith, q));
-            right = sideDef-low r (suc (v - 1 - j .0)) if hr (f .4) (f .8) (omega (arith, q));
-            this = realDef-low b (len (join ls o l r)) n v only-if;
-            literals = below-append b (posPart t l (suc (j .0)) ++ posPart t r (suc (v - 1 - j .0))) (neg (output (join ls o l r) v) ∷ [])
-                (below-append b (posPart t l (suc (j .0))) (posPart t r (suc (v - 1 - j .0))) (posPart-low l hl (f .3) (suc (j .0)) (omega arith))
-                (posPart-low r hr (f .4) (suc (v - 1 - j .0)) (omega arith))) (unfold AllBelow in (out (join ls o l r) e .1, tt));
-          })
+          record {
+            left = sideDef-low l (suc a) if hl (f .3) (f .7) (omega (arith, q));
+            right = sideDef-low r (suc (v - 1 - a)) if hr (f .4) (f .8) (omega (arith, q));
+            this = realDef-low b n v only-if;
+            literals = below-append b (posPart t l (suc a) ++ posPart t r (suc (v - 1 - a))) (neg (output (join ls o l r) v) ∷ [])
+                (below-append b (posPart t l (suc a)) (posPart t r (suc (v - 1 - a))) (posPart-low l hl (f .3) (suc a) (omega arith))
+                (posPart-low r hr (f .4) (suc (v - 1 - a)) (omega arith))) (unfold AllBelow in (out (join ls o l r) e .1, tt));
+          }
 
 -- ---- the invariant: if the steps stay low, so does the log
 
@@ -254,16 +235,16 @@ module _ (b : ℕ) (big : 300 ≤ b) (t : List Node) (sz : Sized t) (low : (n : 
             rw z (omega (arith, key-count (stepIn (s .stored)) t k))) (List·Memᴰ·append-cases (s .stored) m);
       }
 
-  write-low : (x : Request) (c : Clause) (s : State) → Right t x → List·Memᴰ c (clausesOf t x) → LowIf b t s → LowIf b t (write c s)
+  write-low : (x : Request) (c : Clause) (s : State) → Right t x → List·Memᴰ c (clausesOf t x) → LowIf b t s → LowIf b t (write t c s)
   unfolding write
   write-low x c s g m p h =
       let q = p (omega arith) in
       let k = clause-low t b low short sz x c g m in
       record {
-        all = append-low b (s .log) (derivation (clauseTokens (stepIn (s .stored)) c) ∷ clause (s .next-step) (c .literals) ∷ []) (q .all)
+        all = append-low b (s .log) (derivation (clauseTokens (stepIn (s .stored)) t c) ∷ clause (s .next-step) (c .literals) ∷ []) (q .all)
             (unfold flatMap values in
-            below-append b (tokenNumbers (clauseTokens (stepIn (s .stored)) c)) (s .next-step ∷ (c .literals ++ []))
-            (clauseTokens-below b (stepIn (s .stored)) (steps-low s q (omega arith)) (omega arith) c (k .left) (k .right) (k .this))
+            below-append b (tokenNumbers (clauseTokens (stepIn (s .stored)) t c)) (s .next-step ∷ (c .literals ++ []))
+            (clauseTokens-below b (stepIn (s .stored)) (steps-low s q (omega arith)) (omega arith) t c (k .left) (k .right) (k .this))
             (unfold AllBelow in (omega arith, below-append b (c .literals) [] (k .literals) (unfold AllBelow in tt))));
         froms = λ e i. omega (arith, q .froms e i);
       }
@@ -380,7 +361,7 @@ all-low {h} b v l a = all-keep (Low h b) (low-act h b v l) a (sound-start h) (lo
 all-fit : {h : Head} {capacity : ℕ} {cs : List Command} {s u : State} → AllPassed h capacity cs s u → length (bytes (s .log)) ≤ capacity
     → length (bytes (u .log)) ≤ capacity
 all-fit all-done l = l
-all-fit (all-more q a) l = all-fit a (passed-fits q)
+all-fit (all-more q a) l = all-fit a (q .fits)
 
 most-three : 2097152 ≡ 128 ^ groups
 most-three = refl

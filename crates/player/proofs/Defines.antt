@@ -235,31 +235,31 @@ module _ (h : Head) (t : List Node) (d : Distinct t) (s : State) (k : Meant h t 
   or-true true b e = refl
   or-true false b e = e
 
-  meant-write : (c : Clause) → Meant h t (write c s)
+  meant-write : (c : Clause) → Meant h t (write t c s)
   meant-write c =
-      let ks = clauseTokens (stepIn (s .stored)) c in
+      let ks = clauseTokens (stepIn (s .stored)) t c in
       let rs : List Record = derivation ks ∷ clause (s .next-step) (c .literals) ∷ [] in
       let next = k .known-sums .next in
-      meant-more (write c s) rs (unfold write in refl) (unfold write in refl) (unfold write steps in refl)
+      meant-more (write t c s) rs (unfold write in refl) (unfold write in refl) (unfold write steps in refl)
       (λ n l. clause-names n (s .next-step) ks (c .literals) ∙ or-nil (eqb (s .next-step) n) ∙ eqb-no (s .next-step) n (λ e. absurd (omega arith)))
       (λ n l. clause-names n (s .next-step) ks (c .literals) ∙ or-nil (eqb (s .next-step) n)
       ∙ eqb-no (s .next-step) n (λ e. absurd (omega (arith, after c))))
       (λ sums all F. clause-silent sums all (h .step + steps (s .log)) (s .next-step) ks (c .literals) (named-here c sums all F))
     where
-      after : (c : Clause) → write c s .next-step ≡ s .next-step + 1
+      after : (c : Clause) → write t c s .next-step ≡ s .next-step + 1
       after c = unfold write in refl
 
-      log-is : (c : Clause) → write c s .log ≡ s .log ++ (derivation (clauseTokens (stepIn (s .stored)) c) ∷ clause (s .next-step) (c .literals) ∷ [])
+      log-is : (c : Clause) → write t c s .log ≡ s .log ++ (derivation (clauseTokens (stepIn (s .stored)) t c) ∷ clause (s .next-step) (c .literals) ∷ [])
       log-is c = unfold write in refl
 
-      named-here : (c : Clause) (sums : ℕ → Option Sum) (all : List Record) → Future h (write c s) sums all
+      named-here : (c : Clause) (sums : ℕ → Option Sum) (all : List Record) → Future h (write t c s) sums all
           → names (h .step + steps (s .log)) all ≡ true
       named-here c sums all F =
           let e : h .step + steps (s .log) ≡ s .next-step = sym (k .known-sums .next) in
           rw e (F .named (s .next-step) (omega (arith, after c))
           ∙ rw (log-is c) (names-append (s .next-step) (s .log) _
           ∙ or-true (names (s .next-step) (s .log)) _
-          (clause-names (s .next-step) (s .next-step) (clauseTokens (stepIn (s .stored)) c) (c .literals)
+          (clause-names (s .next-step) (s .next-step) (clauseTokens (stepIn (s .stored)) t c) (c .literals)
           ∙ or-nil (eqb (s .next-step) (s .next-step)) ∙ eqb-yes (s .next-step))))
 
   meant-hold : (x : Request) → Meant h t (hold x s)

@@ -1,11 +1,10 @@
--- What every command keeps of a state, and that question 13 is put in vain.
+-- What every command keeps of a state.
 use mathlib.Core.Path.{_≡_, sym, subst}
 use mathlib.Core.Bool.{Bool, true, false}
 use mathlib.Core.Logic.{inl, inr, ⊎-elim}
 use mathlib.Core.List.{List, [], _∷_, List·Memᴰ·not-nil, List·Memᴰ·append-cases, List·Memᴰ·eq-of-singleton}
 use Prim.Native.Nat.{ℕ, _≤_, _<_}
 use native.Mathlib.Omega.{arith}
-use lib.ListN.{length, drop}
 use Rattle.totdb.specs.Nodes.{Node, leaf, joined, len, known}
 use Rattle.cert.specs.Requests.{Request, Right}
 use Rattle.cert.specs.State.{State, start, define, write, hold, requests, serve, Head}
@@ -15,10 +14,10 @@ use Rattle.cert.proofs.Fits.{KeyFits, key-falls, request-falls, looked-fit}
 use Rattle.cert.proofs.Serving.{serve-keeps}
 use Rattle.cert.proofs.Tables.{right-more}
 use Rattle.player.specs.Formed.{Sound, Held, Formed}
-use Rattle.player.specs.Player.{headFits, firstNo, questions, make, delete, act, anyLacks}
+use Rattle.player.specs.Passes.{AllPassed, all-done, all-more}
+use Rattle.player.specs.Player.{headFits, firstNo, questions, make, delete, act}
 use Rattle.player.specs.declared.Command.{Command}
 use Rattle.player.proofs.Counts.{counted-act}
-use Rattle.player.proofs.Offered.{offered}
 use Rattle.player.proofs.Questions.{answered-no, OutOfRange, limits}
 use Rattle.player.proofs.Sound.{sound-start, sound-act, request-fits, requests-asked, requests-right, serve-nodes}
 use Rattle.player.proofs.Tree.{treed-start, treed-act}
@@ -71,10 +70,9 @@ formed-act h c s q f = record {
   held = held-act h c s q (f .sound) (f .held);
 }
 
--- Question 13 is answered yes.
-pub all-offered : (h : Head) (c : Command) (s : State) → firstNo (questions h (s .nodes) c) ≡ 0 → Formed h s
-    → anyLacks (act c s .nodes) (drop (length (s .held)) (act c s .held)) ≡ false
-all-offered h c s q f = offered (act c s .nodes) (length (s .held)) (act c s .held) (held-act h c s q (f .sound) (f .held))
+pub all-formed : {h : Head} {capacity : ℕ} {cs : List Command} {s u : State} → AllPassed h capacity cs s u → Formed h s → Formed h u
+all-formed all-done f = f
+all-formed {h} (all-more {c = c} {s = s} q a) f = all-formed a (subst (Formed h) (q .after) (formed-act h c s (q .asked) f))
 
 -- The limits of the head.
 pub head-low : (h : Head) → headFits h ≡ true → (h .variable ≤ 1000000) × (1 ≤ h .step) × (h .step ≤ 1000000)

@@ -2,7 +2,7 @@
 use mathlib.Core.Path.{_≡_, refl, sym, _∙_, ap, subst}
 use mathlib.Core.Bool.{Bool, true, false}
 use mathlib.Core.Logic.{_⊎_, inl, inr, ⊎-elim}
-use mathlib.Core.List.{List, [], _∷_, _++_, append-assoc, append-nil, List·Memᴰ, List·Memᴰ·head, List·Memᴰ·tail, List·Memᴰ·not-nil, List·Memᴰ·append-cases, List·Memᴰ·eq-of-singleton, Memᴰ·append-right}
+use mathlib.Core.List.{List, [], _∷_, _++_, append-assoc, List·Memᴰ, List·Memᴰ·head, List·Memᴰ·tail, List·Memᴰ·not-nil, List·Memᴰ·append-cases, List·Memᴰ·eq-of-singleton, Memᴰ·append-right}
 use Prim.Native.Nat.{ℕ, zero, suc, _+_, _≤_, _<_}
 use native.Mathlib.Omega.{arith}
 use lib.ListN.{length, length-append}
@@ -11,7 +11,7 @@ use Rattle.cert.specs.State.{State, start, Head}
 use Rattle.player.specs.Passes.{AllPassed, all-done}
 use Rattle.player.specs.Player.{act, play, plays, accepted, refused, outcome, headFits, refusedAtHead, playScript, played}
 use Rattle.player.specs.Script.{Next, command, refuse, Commands, before, stop, closes, commandNumbers, readCommand, readCommands, Script, script, headless, readScript}
-use Rattle.player.specs.Verdict.{Reads, No, no-6, no-7, no-8-join, no-8-request, no-9, no-10, no-11, no-12, no-13, no-14, Reached, at-head, one-more, Verdict, untouched, no-1, no-2-head, no-3, no-2-code, no-4, no-5, no-2, no-more, passed}
+use Rattle.player.specs.Verdict.{Reads, No, no-6, no-7, no-8-join, no-8-request, no-9, no-10, no-11, no-12, no-14, Reached, at-head, one-more, Verdict, untouched, no-1, no-2-head, no-3, no-2-code, no-4, no-5, no-2, no-more, passed}
 use Rattle.player.specs.declared.Command.{Command}
 use Rattle.player.specs.declared.Command.the-variants.{Leaf, Join, Request, Close}
 use Rattle.player.proofs.Coding.{CloseLast, nothing-left}
@@ -281,19 +281,31 @@ verdict-of bs capacity w =
 pub verdict-is : {bs : List ℕ} {capacity n p : ℕ} {s : State} → Bytes bs → Verdict bs capacity n p s → played bs capacity ≡ outcome capacity n p s
 verdict-is w v = verdict-gives w v .is
 
--- ---- a script that passes
+-- ---- the numbers in use
 
-number-some : {h : Head} {capacity : ℕ} {s : State} {c : Command} {n : ℕ} → No h capacity s c n → 0 < n
-number-some (no-6 p) = omega arith
-number-some (no-7 p q) = omega arith
-number-some (no-8-join p) = omega arith
-number-some (no-8-request p) = omega arith
-number-some (no-9 p) = omega arith
-number-some (no-10 p) = omega arith
-number-some (no-11 p) = omega arith
-number-some (no-12 p) = omega arith
-number-some (no-13 x k i j p) = omega arith
-number-some (no-14 p) = omega arith
+pub number-used : {h : Head} {capacity : ℕ} {s : State} {c : Command} {n : ℕ} → No h capacity s c n → ((6 ≤ n) × (n ≤ 12)) ⊎ (n ≡ 14)
+number-used (no-6 p) = inl (omega arith)
+number-used (no-7 p q) = inl (omega arith)
+number-used (no-8-join p) = inl (omega arith)
+number-used (no-8-request p) = inl (omega arith)
+number-used (no-9 p) = inl (omega arith)
+number-used (no-10 p) = inl (omega arith)
+number-used (no-11 p) = inl (omega arith)
+number-used (no-12 p) = inl (omega arith)
+number-used (no-14 p) = inr (omega arith)
+
+pub verdict-used : {bs : List ℕ} {capacity n p : ℕ} {s : State} → Verdict bs capacity n p s → (n ≤ 12) ⊎ (n ≡ 14)
+verdict-used (no-1 o) = inl (omega arith)
+verdict-used (no-2-head short small none) = inl (omega arith)
+verdict-used (no-3 short small k o) = inl (omega arith)
+verdict-used (no-2-code r some none) = inl (omega arith)
+verdict-used (no-4 r k m) = inl (omega arith)
+verdict-used (no-5 r k unclosed o) = inl (omega arith)
+verdict-used (no-2 r k unclosed i j none) = inl (omega arith)
+verdict-used (no-more r unclosed k f) = ⊎-elim (λ l. inl (l .1)) inr (number-used (first-holds f))
+verdict-used (passed r) = inl (omega arith)
+
+-- ---- a script that passes
 
 abbrev pub Whole : List ℕ → ℕ → Type 0
 Whole bs capacity = (h : Head) × (cs : List Command) × (s : State) × Reached bs capacity h cs s []
@@ -306,7 +318,7 @@ accepted-whole e (no-2-code r some none) = absurd (omega arith)
 accepted-whole e (no-4 r k m) = absurd (omega arith)
 accepted-whole e (no-5 r k unclosed o) = absurd (omega arith)
 accepted-whole e (no-2 r k unclosed i j none) = absurd (omega arith)
-accepted-whole e (no-more r unclosed k f) = absurd (omega (arith, number-some (first-holds f)))
+accepted-whole e (no-more r unclosed k f) = ⊎-elim (λ l. absurd (omega (arith, l, e))) (λ l. absurd (omega (arith, l, e))) (number-used (first-holds f))
 accepted-whole e (passed {h = h} {cs = cs} {s = s} r) = (h, cs, s, r)
 
 -- The commands passed.

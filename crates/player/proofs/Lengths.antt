@@ -149,7 +149,7 @@ grown-act n h (Command.Request m v d) s q p g =
     let t = s .nodes in
     serve-in t (sized-ok t (p .sized)) (λ (u : State). n ≤ length (bytes (u .log)))
     (λ k u i r. bytes-grow n (u .log) (keyRecords (stepIn (u .stored)) t k) r)
-    (λ c u r. bytes-grow n (u .log) (derivation (clauseTokens (stepIn (u .stored)) c) ∷ clause (u .next-step) (c .literals) ∷ []) r) (λ x u r. r)
+    (λ c u r. bytes-grow n (u .log) (derivation (clauseTokens (stepIn (u .stored)) t c) ∷ clause (u .next-step) (c .literals) ∷ []) r) (λ x u r. r)
     (requests m v d) (requests-asked t m v d (request-fits h t m v d q)) s g
 grown-act n h Command.Close s q p g = bytes-grow n (s .log) (deletion (storedSteps (s .nodes) (s .stored)) ∷ []) g
 

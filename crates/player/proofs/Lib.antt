@@ -21,8 +21,6 @@ pub mod ScriptCases
 pub mod Numbers
 pub mod Lengths
 pub mod Answers
-pub mod Commands
-pub mod Offered
 pub mod Formed
 pub mod Fronts
 pub mod Endings

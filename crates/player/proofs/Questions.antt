@@ -1,25 +1,25 @@
 -- Questions 1 and 3, and one command: the player refuses it with the first question that is answered no, and accepts it exactly if none is.
-use mathlib.Core.Path.{_≡_, refl, sym, _∙_, ap}
+use mathlib.Core.Path.{_≡_, refl, sym, _∙_, ap, subst}
 use mathlib.Core.Bool.{Bool, true, false, _&&_, _||_, not as notb}
 use mathlib.Core.Logic.{_⊎_, inl, inr, ⊎-elim, _↔_, _≢_}
 use mathlib.Core.List.{List, [], _∷_, _++_, flatMap, List·Memᴰ, List·Memᴰ·head, List·Memᴰ·tail, List·Memᴰ·cases-cons, List·Memᴰ·not-nil, List·Memᴰ·eq-of-singleton, List·Memᴰ·append-cases, Memᴰ·append-right}
 use Prim.Native.Nat.{ℕ, zero, suc, _-_, _≤_, _<_}
+use native.Mathlib.Decide.{decLe}
 use native.Mathlib.Omega.{arith}
 use borrow.Author.Tests.{not-true, ltb-true, ltb-false, leb-true, leb-false, eqb-true, eqb-false}
 use lib.Dec.{leb, ltb, eqb}
-use lib.ListN.{length, drop}
+use lib.ListN.{length}
 use Rattle.pb.specs.Sum.{variable, neg}
 use Rattle.memo.proofs.Lists.{mem-flatMap, of-flatMap}
 use Rattle.record.specs.Record.{bytes}
 use Rattle.totdb.specs.Nodes.{Node, leaf, join, at, len, any, leafOf, isOver, known, taken, leafCount}
 use Rattle.totdb.specs.declared.Side.{Side}
-use Rattle.cert.specs.Definitions.{Definition, nothing, axiom-of, stored, lacking}
-use Rattle.cert.specs.Requests.{Request, Clause, clausesOf, lacks, lacksOne}
 use Rattle.cert.specs.State.{State, Head}
-use Rattle.player.specs.Player.{mostBytes, mostHead, headFits, Question, ask, firstNo, sideFits, questions, anyLacks, lastQuestions, act, accepted, refused, verdict, play}
-use Rattle.player.specs.Verdict.{ownLiteral, leafLiterals, sideNodes, joinedNodes, OffNode, offset-high, limit-high, covering, Lacking, left-lacks, right-lacks, this-lacks, No, no-6, no-7, no-8-join, no-8-request, no-9, no-10, no-11, no-12, no-13, no-14, order, First, first-here, first-later}
+use Rattle.player.specs.Player.{mostBytes, mostHead, headFits, Question, ask, firstNo, sideFits, questions, act, accepted, refused, play}
+use Rattle.player.specs.Verdict.{ownLiteral, leafLiterals, sideNodes, joinedNodes, OffNode, offset-high, limit-high, covering, No, no-6, no-7, no-8-join, no-8-request, no-9, no-10, no-11, no-12, no-14, order, First, first-here, first-later}
 use Rattle.player.specs.declared.Command.{Command}
 use Rattle.player.specs.declared.Command.the-variants.{Leaf, Join, Request as Requested, Close}
+use Rattle.player.proofs.Refusal.{play-stops, play-goes, play-over}
 
 -- ---- a test and what makes it answer no
 
@@ -172,25 +172,6 @@ side-answer t s =
     apart (limit-high l) = inl (inr l)
     apart (covering e f) = inr (e, f)
 
-lacks-is : (d : Definition) → Answer (d ≡ lacking) (notb (lacks d))
-unfolding lacks
-lacks-is nothing = answer-yes (λ e. let z : _≡_ {A = ℕ} 0 1 = cc in omega arith)
-lacks-is (axiom-of l) = answer-yes (λ e. let z : _≡_ {A = ℕ} 0 1 = cc in omega arith)
-lacks-is (stored k i) = answer-yes (λ e. let z : _≡_ {A = ℕ} 0 1 = cc in omega arith)
-lacks-is lacking = answer-no refl
-
-clause-is : (c : Clause) → Answer (Lacking c) (notb (lacksOne c))
-unfolding lacksOne
-clause-is c =
-    answer-map (⊎-elim (⊎-elim left-lacks right-lacks) this-lacks) apart
-    (answer-either (lacks (c .left) || lacks (c .right)) (lacks (c .this))
-    (answer-either (lacks (c .left)) (lacks (c .right)) (lacks-is (c .left)) (lacks-is (c .right))) (lacks-is (c .this)))
-  where
-    apart : Lacking c → ((c .left ≡ lacking) ⊎ (c .right ≡ lacking)) ⊎ (c .this ≡ lacking)
-    apart (left-lacks e) = inl (inl e)
-    apart (right-lacks e) = inl (inr e)
-    apart (this-lacks e) = inr e
-
 -- ---- the questions that a command is put, beside the order
 
 -- The two parts of the order.
@@ -198,7 +179,7 @@ abbrev before-act : List ℕ
 before-act = 6 ∷ 7 ∷ 8 ∷ 9 ∷ 10 ∷ 11 ∷ 12 ∷ []
 
 abbrev after-act : List ℕ
-after-act = 13 ∷ 14 ∷ []
+after-act = 14 ∷ []
 
 -- The answer to question n among qs; true where it is not put.
 unfoldable answerTo : ℕ → List Question → Bool
@@ -252,6 +233,24 @@ first-one (first-here p) (first-later q f) = absurd (q p)
 first-one (first-later q f) (first-here p) = absurd (q p)
 first-one (first-later q f) (first-later r g) = first-one f g
 
+-- No question of the list has a number above m.
+unfoldable Most : ℕ → List Question → Type 0
+Most m [] = Unit {0}
+Most m (ask n b ∷ qs) = (n ≤ m) × Most m qs
+
+first-most : (m : ℕ) (qs : List Question) → Most m qs → firstNo qs ≤ m
+unfolding firstNo Most
+first-most m [] h = omega arith
+first-most m (ask n true ∷ qs) h = first-most m qs (h .1)
+first-most m (ask n false ∷ qs) h = h .0
+
+pub questions-most : (h : Head) (t : List Node) (c : Command) → firstNo (questions h t c) ≤ 12
+unfolding questions Most
+questions-most h t (Command.Leaf l) = first-most 12 _ (omega arith, (omega arith, tt))
+questions-most h t (Command.Join l r) = first-most 12 _ (omega arith, (omega arith, (omega arith, tt)))
+questions-most h t (Command.Request n v d) = first-most 12 _ (omega arith, (omega arith, (omega arith, tt)))
+questions-most h t Command.Close = first-most 12 [] tt
+
 module _ (h : Head) (capacity : ℕ) (s : State) where
   abbrev t : List Node
   t = s .nodes
@@ -261,39 +260,33 @@ module _ (h : Head) (capacity : ℕ) (s : State) where
   leaf-skips : {l : ℕ} (n : ℕ) → 8 ≤ n → n ≤ 12 → No h capacity s (Leaf l) n → ⊥
   leaf-skips n a b (no-6 p) = omega arith
   leaf-skips n a b (no-7 p q) = omega arith
-  leaf-skips n a b (no-13 x k i j p) = omega arith
   leaf-skips n a b (no-14 p) = omega arith
 
   join-starts : {l r : Side} (n : ℕ) → n < 8 → No h capacity s (Join l r) n → ⊥
   join-starts n a (no-8-join p) = omega arith
   join-starts n a (no-9 p) = omega arith
   join-starts n a (no-10 p) = omega arith
-  join-starts n a (no-13 x k i j p) = omega arith
   join-starts n a (no-14 p) = omega arith
 
   join-skips : {l r : Side} (n : ℕ) → 10 < n → n ≤ 12 → No h capacity s (Join l r) n → ⊥
   join-skips n a b (no-8-join p) = omega arith
   join-skips n a b (no-9 p) = omega arith
   join-skips n a b (no-10 p) = omega arith
-  join-skips n a b (no-13 x k i j p) = omega arith
   join-skips n a b (no-14 p) = omega arith
 
   request-starts : {m v d : ℕ} (n : ℕ) → n < 8 → No h capacity s (Requested m v d) n → ⊥
   request-starts n a (no-8-request p) = omega arith
   request-starts n a (no-11 p) = omega arith
   request-starts n a (no-12 p) = omega arith
-  request-starts n a (no-13 x k i j p) = omega arith
   request-starts n a (no-14 p) = omega arith
 
   request-skips : {m v d : ℕ} (n : ℕ) → 8 < n → n ≤ 10 → No h capacity s (Requested m v d) n → ⊥
   request-skips n a b (no-8-request p) = omega arith
   request-skips n a b (no-11 p) = omega arith
   request-skips n a b (no-12 p) = omega arith
-  request-skips n a b (no-13 x k i j p) = omega arith
   request-skips n a b (no-14 p) = omega arith
 
   close-skips : (n : ℕ) → n ≤ 12 → No h capacity s Close n → ⊥
-  close-skips n a (no-13 x k i j p) = omega arith
   close-skips n a (no-14 p) = omega arith
 
   is-6 : {l : ℕ} → No h capacity s (Leaf l) 6 → h .variable ≤ variable l
@@ -321,10 +314,6 @@ module _ (h : Head) (capacity : ℕ) (s : State) where
 
   is-12 : {n v d : ℕ} → No h capacity s (Requested n v d) 12 → (d < 1) ⊎ (3 < d)
   is-12 (no-12 p) = p
-
-  is-13 : {c : Command} → No h capacity s c 13
-      → (x : Request) × List·Memᴰ x (drop (length (s .held)) (act c s .held)) × ((k : Clause) × List·Memᴰ k (clausesOf (act c s .nodes) x) × Lacking k)
-  is-13 (no-13 x k i j p) = (x, i, (k, j, p))
 
   is-14 : {c : Command} → No h capacity s c 14 → capacity < length (bytes (act c s .log))
   is-14 (no-14 p) = p
@@ -378,16 +367,6 @@ module _ (h : Head) (capacity : ℕ) (s : State) where
       not-put 6 (close-skips 6 (omega arith)) (not-put 7 (close-skips 7 (omega arith)) (not-put 8 (close-skips 8 (omega arith)) (not-put 9 (close-skips 9 (omega arith))
       (not-put 10 (close-skips 10 (omega arith)) (not-put 11 (close-skips 11 (omega arith)) (not-put 12 (close-skips 12 (omega arith)) all-answered))))))
 
-  last-answers : (c : Command) → Answers (No h capacity s c) (lastQuestions capacity s (act c s)) after-act
-  unfolding lastQuestions anyLacks
-  last-answers c =
-      let u : State = act c s in
-      put 13 (omega arith)
-      (answer-map (λ k. no-13 (k .0) (k .2 .0) (k .1) (k .2 .1) (k .2 .2)) is-13
-      (answer-any (λ (x : Request). any lacksOne (clausesOf (u .nodes) x)) (λ x. answer-any lacksOne clause-is (clausesOf (u .nodes) x))
-      (drop (length (s .held)) (u .held))))
-      (put 14 (omega arith) (answer-map no-14 is-14 (answer-most (length (bytes (u .log))) capacity)) all-answered)
-
   -- Every question of a command is in the order.
   listed : {c : Command} {n : ℕ} → No h capacity s c n → List·Memᴰ n order
   unfolding order
@@ -399,8 +378,7 @@ module _ (h : Head) (capacity : ℕ) (s : State) where
   listed (no-10 p) = List·Memᴰ·tail (List·Memᴰ·tail (List·Memᴰ·tail (List·Memᴰ·tail (List·Memᴰ·head refl))))
   listed (no-11 p) = Memᴰ·append-right (6 ∷ 7 ∷ 8 ∷ 9 ∷ 10 ∷ []) (List·Memᴰ·head refl)
   listed (no-12 p) = Memᴰ·append-right (6 ∷ 7 ∷ 8 ∷ 9 ∷ 10 ∷ 11 ∷ []) (List·Memᴰ·head refl)
-  listed (no-13 x k i j p) = Memᴰ·append-right before-act (List·Memᴰ·head refl)
-  listed (no-14 p) = Memᴰ·append-right (6 ∷ 7 ∷ 8 ∷ 9 ∷ 10 ∷ 11 ∷ 12 ∷ 13 ∷ []) (List·Memᴰ·head refl)
+  listed (no-14 p) = Memᴰ·append-right before-act (List·Memᴰ·head refl)
 
   -- What the player makes of a command: the first question answered no, or it acts.
   pub data Judged (c : Command) : Type 0 where
@@ -408,18 +386,20 @@ module _ (h : Head) (capacity : ℕ) (s : State) where
     allowed : ((n : ℕ) → No h capacity s c n → ⊥) → play h capacity c s ≡ accepted (act c s) → Judged c
 
   pub judged : (c : Command) → Judged c
-  unfolding play verdict order
+  unfolding order
   judged c = by (find (first-answers c))
     where
+      last : ((n : ℕ) → List·Memᴰ n before-act → No h capacity s c n → ⊥) → firstNo (questions h t c) ≡ 0 → Dec (length (bytes (act c s .log)) ≤ capacity)
+          → Judged c
+      last none e (no l) = stopped 14 (first-right before-act none (first-here (no-14 (omega arith)))) (play-over h capacity c s e (omega arith))
+      last none e (yes l) =
+          allowed (λ n p. ⊎-elim (λ i. none n i p)
+          (λ i. absurd (omega (arith, is-14 (subst (No h capacity s c) (List·Memᴰ·eq-of-singleton i) p)))) (List·Memᴰ·append-cases before-act (listed p)))
+          (play-goes h capacity c s e l)
+
       by : Found (No h capacity s c) (questions h t c) before-act → Judged c
-      by (found n e f) = stopped (suc n) (first-left after-act f) (rw (e, play))
-      by (clear e none) = at-last (find (last-answers c))
-        where
-          at-last : Found (No h capacity s c) (lastQuestions capacity s (act c s)) after-act → Judged c
-          at-last (found n k f) = stopped (suc n) (first-right before-act none f) (rw (e, play) (rw k))
-          at-last (clear k no-last) =
-              allowed (λ n p. ⊎-elim (λ i. none n i p) (λ i. no-last n i p)
-              (List·Memᴰ·append-cases before-act (listed p))) (rw (e, play) (rw k))
+      by (found n e f) = stopped (suc n) (first-left after-act f) (play-stops h capacity c s (suc n) (omega arith) e)
+      by (clear e none) = last none e (decLe (length (bytes (act c s .log))) capacity)
 
   -- Refused with n exactly if n is the first question of the order that is answered no.
   pub refused-exactly : (c : Command) (n : ℕ) → (play h capacity c s ≡ refused n) ↔ First (No h capacity s c) order n
@@ -440,10 +420,10 @@ module _ (h : Head) (capacity : ℕ) (s : State) where
       by (allowed none e) = (λ k. none, λ k. e)
 
   after-high : {n : ℕ} → List·Memᴰ n after-act → 12 < n
-  after-high i = ⊎-elim (λ e. omega arith) (λ j. let e = List·Memᴰ·eq-of-singleton j in omega (arith, e)) (List·Memᴰ·cases-cons i)
+  after-high i = omega (arith, List·Memᴰ·eq-of-singleton i)
 
   -- A command that passes the player's tests before it acts.
-  asked-none : (c : Command) → firstNo (questions h t c) ≡ 0 → (n : ℕ) → n ≤ 12 → No h capacity s c n → ⊥
+  pub asked-none : (c : Command) → firstNo (questions h t c) ≡ 0 → (n : ℕ) → n ≤ 12 → No h capacity s c n → ⊥
   unfolding order
   asked-none c q n l p = by (find (first-answers c))
     where
@@ -451,6 +431,14 @@ module _ (h : Head) (capacity : ℕ) (s : State) where
       by (found m e f) = omega (arith, q, e)
       by (clear e none) =
           ⊎-elim (λ i. none n i p) (λ i. omega (arith, after-high i)) (List·Memᴰ·append-cases before-act (listed p))
+
+  -- A command that none of questions 6 to 12 is answered no for passes them.
+  pub none-asked : (c : Command) → ((n : ℕ) → n ≤ 12 → No h capacity s c n → ⊥) → firstNo (questions h t c) ≡ 0
+  none-asked c none = by (find (first-answers c))
+    where
+      by : Found (No h capacity s c) (questions h t c) before-act → firstNo (questions h t c) ≡ 0
+      by (found n e f) = absurd (none (suc n) (rw (← e) (questions-most h t c)) (first-holds f))
+      by (clear e _) = e
 
 -- ---- of a table alone: questions 6 to 12 see no more of a state
 

@@ -1,87 +1,78 @@
 -- What a play comes to, by cases: one command, a list of commands, a whole script; the log is as long as the capacity and has zeros from its length on.
-use mathlib.Core.Path.{_≡_, refl, sym, _∙_, ap, subst}
-use mathlib.Core.Bool.{Bool, true, false, _&&_, not as notb}
-use mathlib.Core.List.{List, [], _∷_, _++_, append-assoc}
-use Prim.Native.Nat.{ℕ, zero, suc, _+_, _-_, _≤_, _<_}
+use mathlib.Core.Path.{_≡_, refl, sym, _∙_, subst}
+use mathlib.Core.Bool.{Bool, true, false, _&&_}
+use mathlib.Core.List.{List, [], _∷_}
+use Prim.Native.Nat.{ℕ, zero, suc, _-_, _≤_, _<_}
+use native.Mathlib.Decide.{decLe}
 use native.Mathlib.Omega.{arith}
-use borrow.Author.Tests.{not-true, le-leb, lt-leb, leb-true}
+use borrow.Author.Tests.{le-leb, lt-leb}
 use lib.Dec.{leb}
-use lib.ListN.{length, take, drop, replicate, length-append, length-replicate}
+use lib.ListN.{length, replicate, length-append, length-replicate}
 use lib.Seq.{drop-append-seam}
 use Rattle.number.specs.Number.{number, read, Front, bad}
 use Rattle.record.specs.Record.{bytes}
 use Rattle.cert.specs.State.{State, start, Head}
 use Rattle.player.specs.Passes.{Passed}
-use Rattle.player.specs.Player.{verdict, accepted, refused, firstNo, ask, questions, act, anyLacks, lastQuestions, play, Result, plays, outcome, ended, refusedAtHead, headFits, playScript, mostBytes, played, Padded}
+use Rattle.player.specs.Player.{accepted, refused, firstNo, questions, act, fitted, play, Result, plays, outcome, ended, refusedAtHead, headFits, playScript, mostBytes, played, Padded}
 use Rattle.player.specs.Script.{Commands, script, headless, readScript, Script, readCommands}
 use Rattle.player.specs.declared.Command.{Command}
 
--- ---- an accepted command
+-- ---- one command
 
-verdict-accepted : (n : ℕ) (s u : State) → verdict n s ≡ accepted u → (n ≡ 0) × (s ≡ u)
-unfolding verdict
-verdict-accepted zero s u e = (refl, cc)
-verdict-accepted (suc n) s u e = absurd (let z : _≡_ {A = ℕ} 0 1 = cc in omega arith)
+module _ (h : Head) (capacity : ℕ) (c : Command) (s : State) where
+  -- One of questions 6 to 12.
+  pub play-stops : (n : ℕ) → 0 < n → firstNo (questions h (s .nodes) c) ≡ n → play h capacity c s ≡ refused n
+  unfolding play
+  play-stops zero p e = absurd (omega arith)
+  play-stops (suc n) p e = rw (e, play)
 
-verdict-refused : (n : ℕ) (s : State) (m : ℕ) → verdict n s ≡ refused m → 0 < m
-unfolding verdict
-verdict-refused zero s m e = absurd (let z : _≡_ {A = ℕ} 0 1 = cc in omega arith)
-verdict-refused (suc n) s m e = let z : suc n ≡ m = cc in omega arith
+  module _ (asked : firstNo (questions h (s .nodes) c) ≡ 0) where
+    pub play-goes : length (bytes (act c s .log)) ≤ capacity → play h capacity c s ≡ accepted (act c s)
+    unfolding play fitted
+    play-goes l = rw (asked, play) (rw (le-leb _ _ l, fitted))
 
-two-yes : (n m : ℕ) (a b : Bool) → 0 < n → 0 < m → firstNo (ask n a ∷ ask m b ∷ []) ≡ 0 → (a ≡ true) × (b ≡ true)
-unfolding firstNo
-two-yes n m true true p q e = (refl, refl)
-two-yes n m true false p q e = absurd (omega arith)
-two-yes n m false b p q e = absurd (omega arith)
+    -- Question 14.
+    pub play-over : capacity < length (bytes (act c s .log)) → play h capacity c s ≡ refused 14
+    unfolding play fitted
+    play-over l = rw (asked, play) (rw (lt-leb _ _ l, fitted))
 
-last-passed : (capacity : ℕ) (s u : State) → firstNo (lastQuestions capacity s u) ≡ 0
-    → (anyLacks (u .nodes) (drop (length (s .held)) (u .held)) ≡ false) × (length (bytes (u .log)) ≤ capacity)
-unfolding lastQuestions
-last-passed capacity s u q = let p =
-    two-yes 13 14 (notb (anyLacks (u .nodes) (drop (length (s .held)) (u .held)))) (leb (length (bytes (u .log))) capacity) (omega arith)
-    (omega arith) q in (
-      not-true (anyLacks (u .nodes) (drop (length (s .held)) (u .held))) (p .0),
-      leb-true (length (bytes (u .log))) capacity (p .1),
-    )
+  -- What a command comes to.
+  pub data PlayCase : Type 0 where
+    stops : (n : ℕ) → firstNo (questions h (s .nodes) c) ≡ suc n → play h capacity c s ≡ refused (suc n) → PlayCase
+    overflows : play h capacity c s ≡ refused 14 → PlayCase
+    goes : firstNo (questions h (s .nodes) c) ≡ 0 → length (bytes (act c s .log)) ≤ capacity → play h capacity c s ≡ accepted (act c s) → PlayCase
+
+  pub play-cases : PlayCase
+  play-cases = by (firstNo (questions h (s .nodes) c)) refl (decLe (length (bytes (act c s .log))) capacity)
+    where
+      by : (n : ℕ) → firstNo (questions h (s .nodes) c) ≡ n → Dec (length (bytes (act c s .log)) ≤ capacity) → PlayCase
+      by (suc n) q d = stops n q (play-stops (suc n) (omega arith) q)
+      by zero q (yes l) = goes q l (play-goes q l)
+      by zero q (no l) = overflows (play-over q (omega arith))
 
 pub play-passed : (h : Head) (capacity : ℕ) (c : Command) (s u : State) → play h capacity c s ≡ accepted u → Passed h capacity c s u
-play-passed h capacity c s u e = by (firstNo (questions h (s .nodes) c)) refl (unfold play in e)
+play-passed h capacity c s u e = by (play-cases h capacity c s)
   where
-    by : (n : ℕ) → firstNo (questions h (s .nodes) c) ≡ n
-        → elim n as (λ _. Result) [
-          | zero ↦ let u = act c s in
-              verdict (firstNo (lastQuestions capacity s u)) u
-          | suc n ↦ refused (suc n)
-        ] ≡ accepted u → Passed h capacity c s u
-    by (suc n) q k = absurd (let z : _≡_ {A = ℕ} 0 1 = cc in omega arith)
-    by zero q k =
-        let p = verdict-accepted (firstNo (lastQuestions capacity s (act c s))) (act c s) u k in
-        record { asked = q; after = p .1; last = rw (p .1) at (p .0) }
-
-pub passed-fits : {h : Head} {capacity : ℕ} {c : Command} {s u : State} → Passed h capacity c s u → length (bytes (u .log)) ≤ capacity
-passed-fits {h} {capacity} {c} {s} {u} p = last-passed capacity s u (p .last) .1
+    by : PlayCase h capacity c s → Passed h capacity c s u
+    by (stops n q k) = absurd (let z : _≡_ {A = ℕ} 0 1 = cc in omega arith)
+    by (overflows k) = absurd (let z : _≡_ {A = ℕ} 0 1 = cc in omega arith)
+    by (goes q l k) = let a : act c s ≡ u = cc in record { asked = q; after = a; fits = rw a at l }
 
 -- A command that passes, with the same or another capacity.
 module _ (h : Head) (capacity other : ℕ) (c : Command) (s u : State) (p : Passed h capacity c s u) where
-  play-last : play h other c s ≡ verdict (firstNo (lastQuestions other s u)) u
-  unfolding play
-  play-last = rw (p .asked, play) (rw (p .after))
-
   pub play-fits : length (bytes (u .log)) ≤ other → play h other c s ≡ accepted u
-  unfolding lastQuestions firstNo verdict
-  play-fits l = play-last ∙ rw (last-passed capacity s u (p .last) .0, le-leb (length (bytes (u .log))) other l)
+  play-fits l = subst (λ (u : State). length (bytes (u .log)) ≤ other → play h other c s ≡ accepted u) (p .after) (play-goes h other c s (p .asked)) l
 
   pub play-full : other < length (bytes (u .log)) → play h other c s ≡ refused 14
-  unfolding lastQuestions firstNo verdict
-  play-full l = play-last ∙ rw (last-passed capacity s u (p .last) .0, lt-leb (length (bytes (u .log))) other l)
+  play-full l = play-over h other c s (p .asked) (rw (p .after) l)
 
 pub play-refused : (h : Head) (capacity : ℕ) (c : Command) (s : State) (m : ℕ) → play h capacity c s ≡ refused m → 0 < m
-play-refused h capacity c s m e = by (firstNo (questions h (s .nodes) c)) (unfold play in e)
+play-refused h capacity c s m e = by (play-cases h capacity c s)
   where
-    by : (n : ℕ) → elim n as
-        (λ _. Result) [ zero ↦ let u = act c s in verdict (firstNo (lastQuestions capacity s u)) u | suc n ↦ refused (suc n) ] ≡ refused m → 0 < m
-    by (suc n) k = let z : suc n ≡ m = cc in omega arith
-    by zero k = verdict-refused (firstNo (lastQuestions capacity s (act c s))) (act c s) m k
+    by : PlayCase h capacity c s → 0 < m
+    by (stops n q k) = let z : suc n ≡ m = cc in omega arith
+    by (overflows k) = let z : 14 ≡ m = cc in omega arith
+    by (goes q l k) = absurd (let z : _≡_ {A = ℕ} 0 1 = cc in omega arith)
 
 -- ---- the law for a list of commands
 
@@ -132,7 +123,7 @@ plays-padded h capacity ending (c ∷ cs) p s l = by (play h capacity c s) refl 
         → ((u : State) → length (bytes (u .log)) ≤ capacity → Padded capacity (plays h capacity ending cs (suc p) u))
         → Padded capacity (plays h capacity ending (c ∷ cs) p s)
     by (refused m) k ih = rw (plays-refused h capacity ending c cs p s m k) (outcome-padded capacity m (suc p) s l)
-    by (accepted u) k ih = rw (plays-accepted h capacity ending c cs p s u k) (ih u (passed-fits (play-passed h capacity c s u k)))
+    by (accepted u) k ih = rw (plays-accepted h capacity ending c cs p s u k) (ih u (play-passed h capacity c s u k .fits))
 
 pub start-empty : (h : Head) (capacity : ℕ) → length (bytes (start h .log)) ≤ capacity
 unfolding start bytes

@@ -25,7 +25,7 @@ use Rattle.player.specs.Formed.{Sound}
 use Rattle.player.specs.Passes.{Passed, AllPassed, all-done, all-more}
 use Rattle.player.specs.Player.{plays, outcome, play, Result, refused, accepted, make, delete, firstNo, questions, act}
 use Rattle.player.specs.declared.Command.{Command}
-use Rattle.player.proofs.Refusal.{passed-fits, play-fits, plays-done, outcome-number, plays-ended, play-refused, plays-refused, plays-accepted, play-passed}
+use Rattle.player.proofs.Refusal.{play-fits, plays-done, outcome-number, plays-ended, play-refused, plays-refused, plays-accepted, play-passed}
 use Rattle.player.proofs.Sound.{RequestFits, requests-asked, serve-nodes, requests-right, request-fits, sound-act}
 
 pub build-makes : (cs : List Command) (t : List Node) (o : ℕ) → build cs t o ≡ build (makes cs) t o
@@ -87,7 +87,7 @@ pub plays-passed : {h : Head} {capacity : ℕ} {cs : List Command} {s u : State}
     → plays h capacity 0 cs p s ≡ outcome capacity 0 (p + length cs) u
 plays-passed {h} {capacity} p (all-done {s}) = plays-done h capacity 0 p s ∙ ap (λ (n : ℕ). outcome capacity 0 n s) (omega arith)
 plays-passed {h} {capacity} p (all-more {c} {cs} {s} {u} {w} q r) =
-    plays-accepted h capacity 0 c cs p s u (play-fits h capacity capacity c s u q (passed-fits q)) ∙ plays-passed (suc p) r
+    plays-accepted h capacity 0 c cs p s u (play-fits h capacity capacity c s u q (q .fits)) ∙ plays-passed (suc p) r
     ∙ ap (λ (n : ℕ). outcome capacity 0 n w) (omega arith)
 
 pub all-last : {h : Head} {capacity : ℕ} {c : Command} {cs : List Command} {s u w : State} → AllPassed h capacity cs s u → Passed h capacity c u w

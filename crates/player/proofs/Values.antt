@@ -16,8 +16,8 @@ use Rattle.record.proofs.Decode.{Small}
 use Rattle.record.proofs.Sums.{terms-append}
 use Rattle.record.proofs.Tokens.{tokens-append}
 use Rattle.totdb.specs.Nodes.{Node, leaves, len, output, range, at, outputs}
-use Rattle.cert.specs.Definitions.{atLeastZero, realIf, realOnlyIf, realRecords, addSequence, total, Definition, nothing, axiom-of, stored, lacking, Key, ifPart, real, onlyIfPart, windowIf, windowOnlyIf, keyRecords, window-zero, window}
-use Rattle.cert.specs.Requests.{defTokens, Clause, clauseTokens}
+use Rattle.cert.specs.Definitions.{atLeastZero, realIf, realOnlyIf, realRecords, addSequence, total, Definition, nothing, axiom-of, stored, Key, ifPart, real, onlyIfPart, windowIf, windowOnlyIf, keyRecords, window-zero, window}
+use Rattle.cert.specs.Requests.{Clause, definition, defTokens, clauseTokens}
 use Rattle.cert.proofs.Apart.{range-mem}
 use Rattle.cert.proofs.Fits.{KeyFits}
 
@@ -207,7 +207,6 @@ unfoldable pub DefLow : ℕ → Definition → Type 0
 DefLow b nothing = Unit {0}
 DefLow b (axiom-of l) = l < b
 DefLow b (stored k i) = i ≤ 130
-DefLow b lacking = Unit {0}
 
 module _ (b : ℕ) (at-step : Key → ℕ → ℕ) (low-steps : (k : Key) (i : ℕ) → i ≤ 130 → at-step k i < b) (big : 200 < b) where
   lit-below : (l : ℕ) → l < b → TokensBelow b (literal l ∷ [])
@@ -296,13 +295,16 @@ module _ (b : ℕ) (at-step : Key → ℕ → ℕ) (low-steps : (k : Key) (i : �
   defTokens-below nothing p = nil-below
   defTokens-below (axiom-of l) p = lit-below l p
   defTokens-below (stored k i) p = unfold tokenNumbers AllBelow in (omega arith, (low-steps k i p, tt))
-  defTokens-below lacking p = nil-below
 
-  pub clauseTokens-below : (c : Clause) → DefLow b (c .left) → DefLow b (c .right) → DefLow b (c .this) → TokensBelow b (clauseTokens at-step c)
+  pub clauseTokens-below : (t : List Node) (c : Clause) → DefLow b (definition t (c .left)) → DefLow b (definition t (c .right))
+      → DefLow b (definition t (c .this)) → TokensBelow b (clauseTokens at-step t c)
   unfolding clauseTokens
-  clauseTokens-below c l r th =
-      join-below b (addSequence (addSequence (defTokens at-step (c .this)) (defTokens at-step (c .left))) (defTokens at-step (c .right))) (saturate ∷ [])
-      (add-text-below b (addSequence (defTokens at-step (c .this)) (defTokens at-step (c .left))) (defTokens at-step (c .right)) (omega arith)
-      (add-text-below b (defTokens at-step (c .this)) (defTokens at-step (c .left)) (omega arith) (defTokens-below (c .this) th)
-      (defTokens-below (c .left) l)) (defTokens-below (c .right) r))
+  clauseTokens-below t c l r th =
+      let left = defTokens at-step (definition t (c .left)) in
+      let right = defTokens at-step (definition t (c .right)) in
+      let this = defTokens at-step (definition t (c .this)) in
+      join-below b (addSequence (addSequence this left) right) (saturate ∷ [])
+      (add-text-below b (addSequence this left) right (omega arith)
+      (add-text-below b this left (omega arith) (defTokens-below (definition t (c .this)) th) (defTokens-below (definition t (c .left)) l))
+      (defTokens-below (definition t (c .right)) r))
       (unfold tokenNumbers AllBelow in (omega arith, tt))

@@ -4,16 +4,17 @@ use mathlib.Core.Bool.{true}
 use mathlib.Core.List.{List, [], _∷_}
 use Prim.Native.Nat.{ℕ, _≤_}
 use lib.ListN.{length}
+use Rattle.record.specs.Record.{bytes}
 use Rattle.cert.specs.State.{State, start, Head}
-use Rattle.player.specs.Player.{firstNo, questions, lastQuestions, act, headFits, mostBytes}
+use Rattle.player.specs.Player.{firstNo, questions, act, headFits, mostBytes}
 use Rattle.player.specs.Script.{Commands, script, readScript}
 use Rattle.player.specs.declared.Command.{Command}
 
--- A command passes questions 6 to 12 in a state, and 13 and 14 in the state after it.
+-- A command passes questions 6 to 12 in a state, and 14 in the state after it.
 pub record Passed (h : Head) (capacity : ℕ) (c : Command) (s u : State) : Type 0 where
   pub asked : firstNo (questions h (s .nodes) c) ≡ 0
   pub after : act c s ≡ u
-  pub last : firstNo (lastQuestions capacity s u) ≡ 0
+  pub fits : length (bytes (u .log)) ≤ capacity
 
 pub data AllPassed (h : Head) (capacity : ℕ) : List Command → State → State → Type 0 where
   all-done : {s : State} → AllPassed h capacity [] s s

@@ -10,9 +10,8 @@ use Rattle.number.specs.declared.Reading.the-variants.{Bad}
 use Rattle.number.specs.declared.Written.the-variants.{Full}
 use Rattle.pb.specs.Sum.{variable, neg}
 use Rattle.record.specs.Record.{deletion, bytes, steps, clauses}
-use Rattle.totdb.specs.Nodes.{Node, leaf, at, len, joined, any, known, leafCount, taken}
+use Rattle.totdb.specs.Nodes.{Node, leaf, at, len, joined, known, leafCount, taken}
 use Rattle.totdb.specs.declared.Side.{Side}
-use Rattle.cert.specs.Requests.{Request, clausesOf, lacksOne}
 use Rattle.cert.specs.State.{State, start, storedSteps, serve, requests, Head}
 use Rattle.player.specs.Script.{Script, script, headless, readScript}
 use Rattle.player.specs.declared.Command.{Command}
@@ -56,11 +55,6 @@ questions h t (Command.Request n v d) =
     ∷ []
 questions h t Command.Close = []
 
--- Question 13, of the requests xs: a definition that their clauses look up lacks the direction wanted.
-unfoldable pub anyLacks : List Node → List Request → Bool
-unfolding any lacksOne clausesOf
-anyLacks t xs = any (λ (x : Request). any lacksOne (clausesOf t x)) xs
-
 -- ---- commands
 
 unfoldable pub make : Node → ℕ → State → State
@@ -96,20 +90,14 @@ pub data Result : Type 0 where
   accepted : State → Result
   refused : ℕ → Result
 
--- Of the states before and after the command: question 13 is put to the requests held since, question 14 to the whole log after it.
-unfoldable pub lastQuestions : ℕ → State → State → List Question
-unfolding anyLacks bytes
-lastQuestions capacity s u =
-    ask 13 (notb (anyLacks (u .nodes) (drop (length (s .held)) (u .held)))) ∷ ask (writtenRefusal Full) (leb (length (bytes (u .log))) capacity) ∷ []
-
-unfoldable pub verdict : ℕ → State → Result
-verdict zero s = accepted s
-verdict (suc n) s = refused (suc n)
+-- Question 14, of the whole log after a command.
+unfoldable pub fitted : ℕ → State → Result
+unfolding bytes
+fitted capacity s = elim (leb (length (bytes (s .log))) capacity) [ true ↦ accepted s | false ↦ refused (writtenRefusal Full) ]
 
 unfoldable pub play : Head → ℕ → Command → State → Result
-unfolding firstNo questions lastQuestions act verdict
-play h capacity c s =
-    elim (firstNo (questions h (s .nodes) c)) [ zero ↦ let u = act c s in verdict (firstNo (lastQuestions capacity s u)) u | suc n ↦ refused (suc n) ]
+unfolding firstNo questions act fitted
+play h capacity c s = elim (firstNo (questions h (s .nodes) c)) [ zero ↦ fitted capacity (act c s) | suc n ↦ refused (suc n) ]
 
 -- ---- a whole script
 

@@ -3,14 +3,12 @@ use mathlib.Core.Path.{_≡_}
 use mathlib.Core.Logic.{_⊎_, _≢_}
 use mathlib.Core.List.{List, [], _∷_, _++_, flatMap, List·Memᴰ}
 use Prim.Native.Nat.{ℕ, suc, _-_, _≤_, _<_}
-use lib.ListN.{length, drop}
+use lib.ListN.{length}
 use Rattle.number.specs.Number.{encode}
 use Rattle.pb.specs.Sum.{variable, neg}
 use Rattle.record.specs.Record.{bytes}
 use Rattle.totdb.specs.Nodes.{Node, leaf, join, at, len}
 use Rattle.totdb.specs.declared.Side.{Side}
-use Rattle.cert.specs.Definitions.{lacking}
-use Rattle.cert.specs.Requests.{Request, Clause, clausesOf}
 use Rattle.cert.specs.State.{State, start, Head}
 use Rattle.player.specs.Player.{act}
 use Rattle.player.specs.Script.{commandNumbers}
@@ -56,13 +54,7 @@ pub data OffNode (t : List Node) (s : Side) : Type 0 where
   limit-high : len (at t (s .node)) - s .offset < s .limit → OffNode t s
   covering : s .offset ≡ 0 → s .limit ≡ len (at t (s .node)) → OffNode t s
 
--- Question 13, of a clause.
-pub data Lacking (c : Clause) : Type 0 where
-  left-lacks : c .left ≡ lacking → Lacking c
-  right-lacks : c .right ≡ lacking → Lacking c
-  this-lacks : c .this ≡ lacking → Lacking c
-
--- In the state s, the command is answered no to the question of this number. Questions 13 and 14 are of the state after it.
+-- In the state s, the command is answered no to the question of this number. Question 14 is of the state after it.
 pub data No (h : Head) (capacity : ℕ) (s : State) : Command → ℕ → Type 0 where
   -- Leaf: is the variable below the first output variable?
   no-6 : {l : ℕ} → h .variable ≤ variable l → No h capacity s (Leaf l) 6
@@ -81,15 +73,12 @@ pub data No (h : Head) (capacity : ℕ) (s : State) : Command → ℕ → Type 0
   no-11 : {n v d : ℕ} → (v < 1) ⊎ (len (at (s .nodes) n) < v) → No h capacity s (Requested n v d) 11
   -- Request: direction 1 to 3?
   no-12 : {n v d : ℕ} → (d < 1) ⊎ (3 < d) → No h capacity s (Requested n v d) 12
-  -- Has each definition needed the direction wanted?
-  no-13 : {c : Command} (x : Request) (k : Clause) → List·Memᴰ x (drop (length (s .held)) (act c s .held))
-      → List·Memᴰ k (clausesOf (act c s .nodes) x) → Lacking k → No h capacity s c 13
   -- Does all the command writes fit in the log?
   no-14 : {c : Command} → capacity < length (bytes (act c s .log)) → No h capacity s c 14
 
 -- The order in which they are put.
 unfoldable pub order : List ℕ
-order = 6 ∷ 7 ∷ 8 ∷ 9 ∷ 10 ∷ 11 ∷ 12 ∷ 13 ∷ 14 ∷ []
+order = 6 ∷ 7 ∷ 8 ∷ 9 ∷ 10 ∷ 11 ∷ 12 ∷ 14 ∷ []
 
 -- n is the first of the numbers that P holds of.
 pub data First (P : ℕ → Type 0) : List ℕ → ℕ → Type 0 where
@@ -133,7 +122,7 @@ pub data Verdict (bs : List ℕ) (capacity : ℕ) : ℕ → ℕ → State → Ty
   no-2 : {h : Head} {cs : List Command} {s : State} {rest more : List ℕ} {x : ℕ} → Reached bs capacity h cs s rest → Reads rest (x ∷ []) more
       → (List·Memᴰ Close cs → ⊥) → 1 ≤ x → x ≤ 4 → ((c : Command) (r : List ℕ) → Reads rest (commandNumbers c) r → ⊥)
       → Verdict bs capacity 2 (suc (length cs)) s
-  -- Questions 6 to 14.
+  -- Questions 6 to 12, and 14.
   no-more : {h : Head} {cs : List Command} {s : State} {rest more : List ℕ} {c : Command} {n : ℕ} → Reached bs capacity h cs s rest
       → (List·Memᴰ Close cs → ⊥) → Reads rest (commandNumbers c) more → First (No h capacity s c) order n → Verdict bs capacity n (suc (length cs)) s
   -- None is answered no.

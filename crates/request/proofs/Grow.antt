@@ -1,25 +1,25 @@
 -- What every act keeps: a log that is too short stays too short, and a request that is held stays held.
-use mathlib.Core.Path.{refl, sym}
+use mathlib.Core.Path.{sym}
 use mathlib.Core.List.{List, [], _∷_, flatMap, append-nil, List·Memᴰ, Memᴰ·append-left}
 use Rattle.memo.specs.Visit.{each, fresh, batch}
 use Rattle.memo.proofs.Unrolled.{each-all, ask-all}
-use Rattle.record.specs.Record.{derivation, clause}
 use Rattle.totdb.specs.Nodes.{Node}
 use Rattle.cert.specs.Definitions.{Key, pulls}
 use Rattle.cert.specs.Equal.{request-dec, key-dec, keyRank}
-use Rattle.cert.specs.Requests.{Request, nodeOf, needs, Clause, clausesOf, looksOf, clauseTokens}
-use Rattle.cert.specs.State.{State, keys, stepIn, define, write, hold, lookUp, writeClause, writeRequest, serve}
+use Rattle.cert.specs.Requests.{Request, nodeOf, needs, Clause, clausesOf, looksOf}
+use Rattle.cert.specs.State.{State, keys, define, write, hold, lookUp, writeClause, writeRequest, serve}
 use Rattle.define.specs.Tables.{Over}
 use Rattle.define.proofs.Does.{grown, Grows}
 use Rattle.define.proofs.Looks.{look-up-grows}
+use Rattle.clauses.proofs.Standing.{write-grows}
 use Rattle.request.specs.Rows.{askFor}
 
 -- What the three acts keep, all that is made of them keeps.
 module _ (t : List Node) (R : State → Type 0) (lookUp-keeps : (k : Key) (s : State) → R s → R (lookUp t k s))
-    (write-keeps : (x : Clause) (s : State) → R s → R (write x s)) (hold-keeps : (x : Request) (s : State) → R s → R (hold x s)) where
+    (write-keeps : (x : Clause) (s : State) → R s → R (write t x s)) (hold-keeps : (x : Request) (s : State) → R s → R (hold x s)) where
   clause-keeps : (x : Clause) (s : State) → R s → R (writeClause t x s)
   unfolding writeClause
-  clause-keeps x s h = write-keeps x (each (lookUp t) (looksOf x) s) (each-all R (looksOf x) lookUp-keeps s h)
+  clause-keeps x s h = write-keeps x (each (lookUp t) (looksOf t x) s) (each-all R (looksOf t x) lookUp-keeps s h)
 
   request-keeps : (x : Request) (s : State) → R s → R (writeRequest t x s)
   unfolding writeRequest
@@ -36,22 +36,17 @@ module _ (t : List Node) (R : State → Type 0) (lookUp-keeps : (k : Key) (s : S
 
 -- ---- the log
 
-write-grows : (x : Clause) → Grows (λ t s. write x s)
-unfolding write
-write-grows x c m t s h =
-    grown (derivation (clauseTokens (stepIn (s .stored)) x) ∷ clause (s .next-step) (x .literals) ∷ []) refl h
-
 hold-grows : (x : Request) → Grows (λ t s. hold x s)
 unfolding hold
 hold-grows x c m t s h = grown [] (sym (append-nil (s .log))) h
 
 pub ask-grows : (x : Request) → Grows (λ t s. askFor t x s)
 ask-grows x c m t s h =
-    ask-keeps t (Over c m) (λ k u. look-up-grows k c m t u) (λ k u. write-grows k c m t u) (λ k u. hold-grows k c m t u) x s h
+    ask-keeps t (Over c m) (λ k u. look-up-grows k c m t u) (λ k u. write-grows (λ _. k) c m t u) (λ k u. hold-grows k c m t u) x s h
 
 pub serve-grows : (xs : List Request) → Grows (λ t s. serve t xs s)
 serve-grows xs c m t s h =
-    serve-keeps t (Over c m) (λ k u. look-up-grows k c m t u) (λ k u. write-grows k c m t u) (λ k u. hold-grows k c m t u) xs s h
+    serve-keeps t (Over c m) (λ k u. look-up-grows k c m t u) (λ k u. write-grows (λ _. k) c m t u) (λ k u. hold-grows k c m t u) xs s h
 
 -- ---- what is held
 

@@ -4,8 +4,8 @@ use mathlib.Core.Bool.{not}
 use Rattle.define.specs.Tables.{direction}
 use Rattle.define.proofs.Does.{shown-to, shown-after}
 use Rattle.clauses.proofs.Standing.{sizes-kept}
-use Rattle.clauses.proofs.Joins.{this-in}
-use Rattle.clauses.proofs.Written.{left-looks, right-looks, does-looks}
+use Rattle.clauses.proofs.Joins.{left-in, right-in, this-in}
+use Rattle.clauses.proofs.Written.{does-looks}
 use Rattle.clauses.proofs.look_up_each.Statement.{statement}
 use Rattle.clauses.proofs.look_up_each.Tie as tie
 
@@ -13,7 +13,7 @@ look-up-side-requires : tie.Need-look-up-side-requires
 look-up-side-requires c κs =
     let start = c .before .before .before .before .before .before .before .before in
     let p = start .pre .1 in
-    (start .pre .0, (p .0, direction (not (p .1)), shown-to (λ t l k. left-looks t k) (p .2)))
+    (start .pre .0, (p .0, shown-to (λ t l k. left-in k) (p .2)))
 
 look-up-side-requires-2 : tie.Need-look-up-side-requires-2
 look-up-side-requires-2 c κs =
@@ -22,7 +22,7 @@ look-up-side-requires-2 c κs =
     let p = start .pre .1 in
     let d = direction (not (p .1)) in (
       sizes-kept (start .pre .0) (first .look-up-side .kept .1 .0) (first .look-up-side .kept .1 .1 .0),
-      (p .0, d, shown-to (λ t l k. right-looks t k) (shown-after (λ t l k. left-looks t k) (first .look-up-side .ensures (p .0) d) (p .2))),
+      (p .0, shown-to (λ t l k. right-in k) (shown-after (λ t l k. left-in k) (first .look-up-side .ensures (p .0) d) (p .2))),
     )
 
 look-up-real-requires : tie.Need-look-up-real-requires
@@ -37,8 +37,8 @@ look-up-real-requires c κs =
       (
         p .0,
         shown-to (λ t l k. this-in k)
-            (shown-after (λ t l k. right-looks t k) (second .look-up-side2 .ensures (p .0) d)
-            (shown-after (λ t l k. left-looks t k) (first .look-up-side .ensures (p .0) d) (p .2))),
+            (shown-after (λ t l k. right-in k) (second .look-up-side2 .ensures (p .0) d)
+            (shown-after (λ t l k. left-in k) (first .look-up-side .ensures (p .0) d) (p .2))),
       ),
     )
 

@@ -1,10 +1,13 @@
 -- `clauses::put_clause` meets its contract: nothing where the log is full, else the records of the clause.
 use borrow.Author.Needs.{needs}
 use mathlib.Core.Path.{refl, _∙_}
+use native.Mathlib.Omega.{arith}
+use Rattle.cert.specs.Requests.{definition}
 use Rattle.define.proofs.Does.{exact-of, does-full}
 use Rattle.clauses.specs.Joins.{ClauseIn, clauseOf}
 use Rattle.clauses.proofs.Standing.{write-grows, does-write, firsts-of}
-use Rattle.clauses.proofs.Joins.{this-read, left-in, right-in}
+use Rattle.clauses.proofs.Firsts.{real-read}
+use Rattle.clauses.proofs.Joins.{left-in, right-in}
 use Rattle.clauses.proofs.Written.{clause-puts, left-read, right-read}
 use Rattle.clauses.proofs.put_clause.Statement.{statement}
 use Rattle.clauses.proofs.put_clause.Tie as tie
@@ -74,7 +77,7 @@ same-length : tie.Need-same-length
 same-length c = search needs
 
 returns-2 : tie.Need-returns-2
-unfolding clauseOf
+unfolding clauseOf definition
 returns-2 c = λ ls h k.
     let second = c .before .before .before .before in
     let first = second .before .before .before .before .before .before .before in
@@ -91,8 +94,8 @@ returns-2 c = λ ls h k.
       firsts = refl;
       steps = refl;
       log =
-          clause-puts (clauseOf t (a .x) (a .value) (a .i) (a .j) (a .only-if)) s _ _ _ _ _ _ _
-          (defs .before .before .real-definition .ensures ∙ this-read (a .only-if) f (p .of) (r .node) (r .within))
+          clause-puts t (clauseOf t (a .x) (a .value) (a .i) (a .j) (a .only-if)) s _ _ _ _ _ _ _
+          (defs .before .before .real-definition .ensures ∙ real-read f (a .x .node) (a .value) (a .only-if) (r .node) (omega (arith, r .within)))
           (defs .before .side-definition .ensures ls t (s .stored) (left-read (test .if1 .left) l p e))
           (defs .side-definition2 .ensures ls t (s .stored) (right-read (test .if1 .left) l p e))
           (rw (

@@ -20,7 +20,7 @@ is-plain-requires c κs = search needs
 key-requires : tie.Need-key-requires
 key-requires c κs =
     let start = c .before .before .before .before .before .before .before .before .before .before .before .before in
-    side-bounds (start .args .s) (start .args .node-len) (start .args .a) (start .pre .1 .1) (start .pre .1 .2)
+    side-bounds (start .args .s) (start .args .node-len) (start .args .a) (start .pre .1 .1)
 
 look-up-real-requires : tie.Need-look-up-real-requires
 look-up-real-requires c κs =
@@ -31,7 +31,7 @@ look-up-real-requires c κs =
       (
         start .pre .1 .0,
         rw (c .key .ensures)
-            (plain-shown (a .s) (a .node-len) (a .a) (start .pre .1 .1) (sym (test .before .is-plain .ensures) ∙ test .if2 .taken) (start .pre .1 .2)),
+            (plain-shown (a .s) (a .node-len) (a .a) (sym (test .before .is-plain .ensures) ∙ test .if2 .taken) (start .pre .1 .1)),
       ),
     )
 
@@ -63,7 +63,7 @@ look-up-window-requires c κs =
       (
         start .pre .1 .0,
         rw (long .before .len .ensures)
-            (window-shown (a .s) (a .node-len) (a .a) (start .pre .1 .1) (rw (long .before .len .ensures) at (long .if1 .left)) (start .pre .1 .2)),
+            (window-shown (a .s) (a .node-len) (a .a) (rw (long .before .len .ensures) at (long .if1 .left)) (start .pre .1 .1)),
       ),
     )
 
