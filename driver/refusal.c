@@ -12,7 +12,6 @@ static const char *const reasons[] = { // what it means that a question was answ
     [TOTLOG_WINDOW] = "an offset is not below its node's length, or a limit is above what is left or hides nothing",
     [TOTLOG_VALUE] = "the value is not 1 to the node's length",
     [TOTLOG_DIRECTION] = "the direction is not 1 (if), 2 (only-if) or 3 (both)",
-    [TOTLOG_NO_DEFINITION] = "a definition it needs lacks the direction wanted",
     [TOTLOG_LOG_FULL] = "what it writes does not fit in the log",
 };
 

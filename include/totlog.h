@@ -15,11 +15,11 @@ extern "C" {
 // Six numbers of four bytes, low byte first.
 #define TOTLOG_ANSWER_BYTES 24
 
-// The free stack that a call needs. Its tables are local arrays: a call takes 502,040 bytes, as `tests/run` measures, which
+// The free stack that a call needs. Its tables are local arrays: a call takes 502,024 bytes, as `tests/run` measures, which
 // fails where it is more than this. A thread with a smaller stack has to be given one of this size at least.
 #define TOTLOG_STACK_BYTES 524288
 
-// The numbers by which a script is refused.
+// The numbers by which a script is refused. 13 is not used.
 enum {
     TOTLOG_ACCEPTED = 0,
     TOTLOG_TOO_LONG = 1,       // the script or the log is longer than 65,536 bytes
@@ -34,7 +34,6 @@ enum {
     TOTLOG_WINDOW = 10,        // the offset is not below the node's length, or the limit is above what is left or hides nothing
     TOTLOG_VALUE = 11,         // the value requested is not 1 to the node's length
     TOTLOG_DIRECTION = 12,     // the direction is not 1 (if), 2 (only-if) or 3 (both)
-    TOTLOG_NO_DEFINITION = 13, // a definition needed lacks the direction wanted; proved never to be answered
     TOTLOG_LOG_FULL = 14       // what the command writes does not fit in the log
 };
 

@@ -104,8 +104,7 @@ pub fn act(command: Command, counters: &mut Counters) {
     }
 }
 
-/// One command: read, judged, done, and question 14. (Question 13 has no answer but yes: rustsat would
-/// panic on a definition that lacks the direction wanted.)
+/// One command: read, judged, done, and question 14.
 fn command(
     reader: &mut Reader,
     capacity: u32,
