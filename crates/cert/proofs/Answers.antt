@@ -1,13 +1,17 @@
--- Worked out: the sums of a window, and two requests in both directions through a window, the numbers of whose records are those that
--- rustsat 0.7.5 writes.
+-- Worked out: the sums of a window; two requests in both directions through a window, the numbers of whose records are those that
+-- rustsat 0.7.5 writes; what clauses look up.
 use mathlib.Core.Path.{_≡_, refl}
-use mathlib.Core.List.{List, [], _∷_, flatMap}
+use mathlib.Core.List.{List, [], _∷_, map, flatMap}
 use mathlib.Core.Option.{some}
+use native.Mathlib.Decide.{decLe}
 use Rattle.pb.specs.Sum.{_·_, _≥_}
 use Rattle.record.specs.Record.{numbers}
 use Rattle.record.specs.Steps.{written, derived}
-use Rattle.totdb.specs.Nodes.{Node, leaf, join}
-use Rattle.cert.specs.Definitions.{window, definedBy}
+use Rattle.totdb.specs.Nodes.{Node, leaf, join, at, leaves, len, limited, range, sideLen, plainOr, keyed}
+use Rattle.cert.specs.Definitions.{if, only-if, real, window, realDef, longDef, sideDef, definedBy}
+use Rattle.cert.specs.Lookups.{usedAt, usedBy}
+use Rattle.cert.specs.Requests.{request, splits, positive, named, below, needsAt, needs, Lookup, of-side, of-node, ifClause, onlyIfClause, clausesAt, clausesOf, definition, keyOf, lookedUp, looksOf, lookups}
+use Rattle.cert.specs.Totalizer.{pairs}
 use Rattle.cert.specs.State.{State, start, serve, requests, storedSteps}
 use Rattle.cert.proofs.SchemaCases.{side}
 
@@ -62,3 +66,42 @@ record-numbers = refl
 pub stored-steps : storedSteps table (after .stored) ≡ 1 ∷ 2 ∷ 5 ∷ 6 ∷ 8 ∷ 9 ∷ 17 ∷ 18 ∷ 19 ∷ 20 ∷ 21 ∷ 22 ∷ 23 ∷ 24 ∷ 25 ∷ 26 ∷ 32 ∷ 34 ∷ 35 ∷ []
 unfolding table after serve requests start storedSteps
 stored-steps = refl
+
+-- What the clauses of two values of node 6 look up, left, right, this: of the window and of the leaf the only-if from 0 to the length, and the if from 1 to
+-- one above it.
+unfoldable pub value-one : List (List Lookup)
+value-one =
+    (of-side (side 5 1) 0 only-if ∷ of-side (side 3 0) 1 only-if ∷ of-node 6 1 if ∷ [])
+    ∷ (of-side (side 5 1) 1 only-if ∷ of-side (side 3 0) 0 only-if ∷ of-node 6 1 if ∷ [])
+    ∷ []
+
+unfoldable pub value-three : List (List Lookup)
+value-three =
+    (of-side (side 5 1) 2 if ∷ of-side (side 3 0) 2 if ∷ of-node 6 3 only-if ∷ [])
+    ∷ (of-side (side 5 1) 3 if ∷ of-side (side 3 0) 1 if ∷ of-node 6 3 only-if ∷ [])
+    ∷ []
+
+pub wanted : (map lookedUp (clausesOf table (request 6 1 if)) ≡ value-one) × (map lookedUp (clausesOf table (request 6 3 only-if)) ≡ value-three)
+unfolding table value-one value-three at leaves len limited range sideLen splits clausesOf clausesAt ifClause onlyIfClause
+wanted = (refl, refl)
+
+pub listed : (usedBy table (request 6 1 if) ≡ value-one) × (usedBy table (request 6 3 only-if) ≡ value-three)
+unfolding table value-one value-three at leaves len limited range sideLen usedBy usedAt pairs flatMap
+listed = (refl, refl)
+
+-- Two nodes of length 2 under a third: what a value needs below, and the keys that its clauses look up, in order.
+unfoldable pub four : List Node
+four =
+    leaf 0 ∷ leaf 2 ∷ leaf 4 ∷ leaf 6
+    ∷ join (0 ∷ 2 ∷ []) 4 (side 0 0) (side 1 0)
+    ∷ join (4 ∷ 6 ∷ []) 6 (side 2 0) (side 3 0)
+    ∷ join (0 ∷ 2 ∷ 4 ∷ 6 ∷ []) 8 (side 4 0) (side 5 0)
+    ∷ []
+
+pub below-both : needs four (request 6 1 if) ≡ request 4 1 if ∷ request 5 1 if ∷ []
+unfolding four at leaves len limited range sideLen splits positive named below needsAt needs
+below-both = refl
+
+pub in-order : lookups four (request 6 1 if) ≡ real 4 0 ∷ real 5 1 ∷ real 6 1 ∷ real 4 1 ∷ real 5 0 ∷ real 6 1 ∷ []
+unfolding four at leaves len limited range sideLen splits flatMap lookups clausesOf clausesAt ifClause looksOf definition sideDef longDef plainOr realDef keyOf keyed decLe
+in-order = refl

@@ -1,13 +1,13 @@
--- What requests depend on below and which definitions their clauses use, in which direction, worked out through a plain side, a leaf and a window.
+-- What requests depend on below and which definitions their clauses use, worked out, through a plain side, a leaf and a window.
 use mathlib.Core.Path.{_≡_, refl}
 use mathlib.Core.List.{List, [], _∷_, map, flatMap, List·Memᴰ, List·Memᴰ·head, List·Memᴰ·tail}
 use Prim.Native.Nat.{zero, suc}
 use native.Mathlib.Decide.{decLe, ℕ-discrete}
 use native.Mathlib.Omega.{arith}
-use Rattle.totdb.specs.Nodes.{Node, leaf, join, keyed, at, leaves, len, output, outputs, range, limited, sideLen, sideLeaves, sideOutputs, plainOr}
-use Rattle.cert.specs.Definitions.{Direction, if, only-if, Key, real, window-zero, window, realDef, windowDef, longDef, sideDef, pulls}
+use Rattle.totdb.specs.Nodes.{at, leaves, len, output, outputs, range, limited, sideLen, sideLeaves, sideOutputs, plainOr}
+use Rattle.cert.specs.Definitions.{Direction, if, only-if, Key, real, window-zero, window, windowDef, longDef, sideDef, pulls}
 use Rattle.cert.specs.Lookups.{sideKeys, lookupKeys, usedAt, usedBy, keysOf}
-use Rattle.cert.specs.Requests.{Request, request, splits, Lookup, of-side, of-node, Clause, ifClause, onlyIfClause, clausesAt, clausesOf, definition, keyOf, lookedUp, looksOf, lookups, Right}
+use Rattle.cert.specs.Requests.{Request, request, splits, Lookup, of-node, Clause, ifClause, clausesAt, clausesOf, definition, keyOf, lookedUp, looksOf, lookups, Right}
 use Rattle.cert.specs.Totalizer.{literalAt, opposite, complement, simplify, C1, C2, pairs, schema, nameOf, dependency, dependenciesAt, dependencies}
 use Rattle.cert.proofs.Answers.{table}
 use Rattle.cert.proofs.Available.{Available, clause-available, pulled-available}
@@ -62,30 +62,6 @@ table-sized (suc (suc (suc (suc (suc (suc (suc n))))))) h = absurd (omega arith)
 pub met-lookups : Covers (lookups table (request 6 2 if)) (keysOf table (request 6 2 if))
 unfolding Right table at leaves len
 met-lookups = lookups-are table table-sized (request 6 2 if) (omega arith, omega arith, omega arith)
-
--- ---- the directions wanted
-
--- Left, right, this of each clause, over a window of two outputs and a leaf: of the sides the only-if from 0 to the length, and the if from 1 to one above it.
-pub wanted : (map lookedUp (clausesOf table (request 6 1 if))
-    ≡ (of-side (side 5 1) 0 only-if ∷ of-side (side 3 0) 1 only-if ∷ of-node 6 1 if ∷ [])
-    ∷ (of-side (side 5 1) 1 only-if ∷ of-side (side 3 0) 0 only-if ∷ of-node 6 1 if ∷ []) ∷ [])
-    × (map lookedUp (clausesOf table (request 6 3 only-if))
-    ≡ (of-side (side 5 1) 2 if ∷ of-side (side 3 0) 2 if ∷ of-node 6 3 only-if ∷ []) ∷ (of-side (side 5 1) 3 if ∷ of-side (side 3 0) 1 if ∷ of-node 6 3 only-if ∷ []) ∷ [])
-unfolding table at leaves len limited range sideLen splits clausesOf clausesAt ifClause onlyIfClause
-wanted = (refl, refl)
-
--- Two nodes of length 2 under a third: the keys that its clauses look up, in order.
-unfoldable pub four : List Node
-four =
-    leaf 0 ∷ leaf 2 ∷ leaf 4 ∷ leaf 6
-    ∷ join (0 ∷ 2 ∷ []) 4 (side 0 0) (side 1 0)
-    ∷ join (4 ∷ 6 ∷ []) 6 (side 2 0) (side 3 0)
-    ∷ join (0 ∷ 2 ∷ 4 ∷ 6 ∷ []) 8 (side 4 0) (side 5 0)
-    ∷ []
-
-pub in-order : lookups four (request 6 1 if) ≡ real 4 0 ∷ real 5 1 ∷ real 6 1 ∷ real 4 1 ∷ real 5 0 ∷ real 6 1 ∷ []
-unfolding four at leaves len limited range sideLen splits flatMap lookups clausesOf clausesAt ifClause looksOf definition sideDef longDef plainOr realDef keyOf keyed decLe
-in-order = refl
 
 -- what meets the hypotheses of `clause-available` and `pulled-available`
 pub met-available : (c : Clause) → List·Memᴰ c (clausesOf table (request 6 3 only-if)) → (l : Lookup) → List·Memᴰ l (lookedUp c) → Available table l

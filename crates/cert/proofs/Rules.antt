@@ -1,19 +1,19 @@
 -- The rules of requests and definitions: needs are at lower nodes, and no later node changes what a request needs, looks up and writes.
 use mathlib.Core.Path.{_≡_, refl, sym, _∙_, ap, subst}
-use mathlib.Core.Logic.{_⊎_, inl, inr, ⊎-elim}
+use mathlib.Core.Logic.{_⊎_, ⊎-elim}
 use mathlib.Core.List.{List, [], _∷_, _++_, map, flatMap, List·Memᴰ, List·Memᴰ·not-nil, List·Memᴰ·append-cases, List·Memᴰ·cases-cons, List·Memᴰ·eq-of-singleton, Memᴰ·of-map}
 use Prim.Native.Nat.{ℕ, zero, suc, _+_, _-_, _<_}
 use native.Mathlib.Omega.{arith}
 use lib.ListN.{length, length-append, List·getD-append}
 use Rattle.memo.proofs.Grow.{World, Grows}
-use Rattle.memo.proofs.Lists.{map-agree, flatMap-agree, of-flatMap}
+use Rattle.memo.proofs.Lists.{map-agree, flatMap-agree, of-flatMap, of-three}
 use Rattle.memo.proofs.Serve.{Falls}
 use Rattle.totdb.specs.Nodes.{Node, leaf, join, at, sideLen, sideLit, sideOutputs, outputs, range, sideLeaves, plainOr, leaves}
 use Rattle.totdb.specs.declared.Side.{Side}
 use Rattle.cert.specs.Counted.{KeyIn, keyNode}
-use Rattle.cert.specs.Definitions.{Key, real, window-zero, window, pulls, Direction, Definition, oneDef, if, only-if, realDef, windowDef, sideDef, windowReals}
+use Rattle.cert.specs.Definitions.{Key, real, window-zero, window, pulls, Direction, Definition, if, only-if, realDef, windowDef, sideDef, windowReals}
 use Rattle.cert.specs.Equal.{keyRank}
-use Rattle.cert.specs.Requests.{Request, clausesOf, Clause, definition, looksOf, nodeOf, needs, needsAt, below, request, named, keyOf, clausesAt, ifClause, onlyIfClause, splits, negPart, posPart, literalsOf, lookups}
+use Rattle.cert.specs.Requests.{Request, clausesOf, Lookup, Clause, definition, lookedUp, looksOf, nodeOf, needs, needsAt, below, request, named, keyOf, clausesAt, ifClause, onlyIfClause, splits, negPart, posPart, literalsOf, lookups}
 use Rattle.cert.proofs.Keyed.{by-form, no-key, real-key, window-key}
 
 -- A table is well made where the sides of each join are at lower nodes.
@@ -100,39 +100,33 @@ needs-more t u ok (request n v d) i = rw (← at-more t u n i) (go (at t n) (sid
     go (leaf a) b = refl
     go (join ls o l r) b = rw (sideLen-more t u l (b .0), sideLen-more t u r (b .1))
 
--- ---- the keys of a request's definitions are at its node and at its sides'
+-- ---- what holds of the keys that a clause looks up
 
-abbrev AtNode : ℕ → Definition → Type 0
-AtNode n d = (k : Key) → List·Memᴰ k (keyOf d) → keyNode k ≡ n
+module _ (P : Key → Type 0) where
+  abbrev pub AllKeys : Definition → Type 0
+  AllKeys d = (k : Key) → List·Memᴰ k (keyOf d) → P k
 
-no-node : (n : ℕ) (d : Definition) → keyOf d ≡ [] → AtNode n d
-no-node n d e k m = absurd (List·Memᴰ·not-nil (subst (List·Memᴰ k) e m))
+  one-key : (d : Definition) (k : Key) → keyOf d ≡ k ∷ [] → P k → AllKeys d
+  one-key d k e p j m = subst P (sym (List·Memᴰ·eq-of-singleton (subst (List·Memᴰ j) e m))) p
 
-one-node : (n : ℕ) (k : Key) (d : Definition) → keyOf d ≡ k ∷ [] → keyNode k ≡ n → AtNode n d
-one-node n k d e i j m = ap keyNode (List·Memᴰ·eq-of-singleton (subst (List·Memᴰ j) e m)) ∙ i
+  pub node-keys : (n v : ℕ) (d : Direction) → P (real n v) → AllKeys (realDef n v d)
+  node-keys n v d p = one-key (realDef n v d) (real n v) (real-key n v d) p
 
-realDef-node : (n v : ℕ) (d : Direction) → AtNode n (realDef n v d)
-unfolding keyNode
-realDef-node n v d = one-node n (real n v) (realDef n v d) (real-key n v d) refl
+  pub side-keys : (t : List Node) (s : Side) (i : ℕ) (d : Direction) → P (real (s .node) i)
+      → (1 < sideLen t s → P (window (s .node) (s .offset) (sideLen t s))) → AllKeys (sideDef t s i d)
+  side-keys t s i d p w =
+      by-form AllKeys t s i d (λ _ k m. absurd (List·Memᴰ·not-nil (subst (List·Memᴰ k) (no-key (sideLit t s 1) i) m))) (λ _ _ _. node-keys (s .node) i d p)
+      (λ l _ v _. one-key (windowDef (s .node) (s .offset) (sideLen t s) v d) (window (s .node) (s .offset) (sideLen t s))
+      (window-key (s .node) (s .offset) (sideLen t s) v d) (w l))
 
-sideDef-node : (t : List Node) (s : Side) (i : ℕ) (d : Direction) → AtNode (s .node) (sideDef t s i d)
-unfolding keyNode
-sideDef-node t s i d =
-    by-form (AtNode (s .node)) t s i d (λ _. no-node (s .node) (oneDef (sideLit t s 1) i) (no-key (sideLit t s 1) i)) (λ _ _ _. realDef-node (s .node) i d)
-    (λ _ _ v _. one-node (s .node) (window (s .node) (s .offset) (sideLen t s)) (windowDef (s .node) (s .offset) (sideLen t s) v d)
-    (window-key (s .node) (s .offset) (sideLen t s) v d) refl)
+  pub looks-all : (t : List Node) (c : Clause) → AllKeys (definition t (c .left)) → AllKeys (definition t (c .right)) → AllKeys (definition t (c .this))
+      → (k : Key) → List·Memᴰ k (looksOf t c) → P k
+  unfolding looksOf
+  looks-all t c l r h k m =
+      let q = of-flatMap (λ (a : Lookup). keyOf (definition t a)) (lookedUp c) m in
+      of-three (λ (a : Lookup). AllKeys (definition t a)) l r h (q .0) (q .1) k (q .2)
 
-pub looks-cases : (t : List Node) (c : Clause) (k : Key) → List·Memᴰ k (looksOf t c)
-    → List·Memᴰ k (keyOf (definition t (c .left))) ⊎ List·Memᴰ k (keyOf (definition t (c .right))) ⊎ List·Memᴰ k (keyOf (definition t (c .this)))
-unfolding looksOf flatMap
-looks-cases t c k i =
-    ⊎-elim inl (λ h. inr (⊎-elim inl (λ g. inr (⊎-elim (λ m. m) (λ m. absurd (List·Memᴰ·not-nil m)) (List·Memᴰ·append-cases (keyOf (definition t (c .this))) g)))
-    (List·Memᴰ·append-cases (keyOf (definition t (c .right))) h))) (List·Memᴰ·append-cases (keyOf (definition t (c .left))) i)
-
-looks-node : (t : List Node) (c : Clause) (a b n m : ℕ) (k : Key) → AtNode a (definition t (c .left)) → AtNode b (definition t (c .right))
-    → AtNode n (definition t (c .this)) → a < m → b < m → n < m → List·Memᴰ k (looksOf t c) → keyNode k < m
-looks-node t c a b n m k l r th ha hb hn i =
-    ⊎-elim (λ h. rw (l k h) ha) (⊎-elim (λ h. rw (r k h) hb) (λ h. rw (th k h) hn)) (looks-cases t c k i)
+-- ---- the keys that a request looks up are at its node and at its sides'
 
 -- A clause of a request, by its direction: that of a split over the sides of a join.
 pub data ClauseForm (t : List Node) (n v : ℕ) : Node → Direction → Clause → Type 0 where
@@ -152,18 +146,18 @@ clause-form t n v (join ls o l r) only-if c m =
     subst (ClauseForm t n v (join ls o l r) only-if) (j .2) (an-only-if (j .0) (j .1))
 
 lookups-in : (t : List Node) → Ok t → (x : Request) (k : Key) → In t x → List·Memᴰ k (lookups t x) → KeyIn t k
-unfolding lookups In KeyIn nodeOf clausesOf Below definition ifClause onlyIfClause
+unfolding lookups In KeyIn keyNode nodeOf clausesOf Below definition ifClause onlyIfClause
 lookups-in t ok (request n v d) k i m =
     let c = of-flatMap (looksOf t) (clausesOf t (request n v d)) m in
     go (sides-in t ok n i) (clause-form t n v (at t n) d (c .0) (c .1)) (c .2)
   where
-    go : {x : Node} {d : Direction} {c : Clause} → Below (length t) x → ClauseForm t n v x d c → List·Memᴰ k (looksOf t c) → keyNode k < length t
+    go : {x : Node} {d : Direction} {c : Clause} → Below (length t) x → ClauseForm t n v x d c → List·Memᴰ k (looksOf t c) → KeyIn t k
     go b (an-if {ls = ls} {o = o} {l = l} {r = r} a m) h =
-        looks-node t (ifClause t n (join ls o l r) l r v a) (l .node) (r .node) n (length t) k (sideDef-node t l a only-if)
-        (sideDef-node t r (v - a) only-if) (realDef-node n v if) (b .0) (b .1) i h
+        looks-all (KeyIn t) t (ifClause t n (join ls o l r) l r v a) (side-keys (KeyIn t) t l a only-if (b .0) (λ _. b .0))
+        (side-keys (KeyIn t) t r (v - a) only-if (b .1) (λ _. b .1)) (node-keys (KeyIn t) n v if i) k h
     go b (an-only-if {ls = ls} {o = o} {l = l} {r = r} a m) h =
-        looks-node t (onlyIfClause t n (join ls o l r) l r v a) (l .node) (r .node) n (length t) k (sideDef-node t l (suc a) if)
-        (sideDef-node t r (suc (v - 1 - a)) if) (realDef-node n v only-if) (b .0) (b .1) i h
+        looks-all (KeyIn t) t (onlyIfClause t n (join ls o l r) l r v a) (side-keys (KeyIn t) t l (suc a) if (b .0) (λ _. b .0))
+        (side-keys (KeyIn t) t r (suc (v - 1 - a)) if (b .1) (λ _. b .1)) (node-keys (KeyIn t) n v only-if i) k h
 
 -- ---- later nodes change no clause
 

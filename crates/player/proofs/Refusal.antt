@@ -13,11 +13,17 @@ use Rattle.number.specs.Number.{number, read, Front, bad}
 use Rattle.record.specs.Record.{bytes}
 use Rattle.cert.specs.State.{State, start, Head}
 use Rattle.player.specs.Passes.{Passed}
-use Rattle.player.specs.Player.{accepted, refused, firstNo, questions, act, fitted, play, Result, plays, outcome, ended, refusedAtHead, headFits, playScript, mostBytes, played, Padded}
+use Rattle.player.specs.Player.{accepted, refused, firstNo, questions, delete, act, fitted, play, Result, plays, outcome, ended, refusedAtHead, headFits, playScript, mostBytes, played, Padded}
 use Rattle.player.specs.Script.{Commands, script, headless, readScript, Script, readCommands}
+use Rattle.player.specs.Verdict.{untouched}
 use Rattle.player.specs.declared.Command.{Command}
 
 -- ---- one command
+
+-- Question 14 at its edge: a close writes two bytes, which two bytes hold and one does not.
+two-bytes : let s = delete untouched in (fitted 2 s ≡ accepted s) × (fitted 1 s ≡ refused 14)
+unfolding delete start fitted
+two-bytes = (refl, refl)
 
 module _ (h : Head) (capacity : ℕ) (c : Command) (s : State) where
   -- One of questions 6 to 12.
