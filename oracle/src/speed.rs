@@ -5,8 +5,12 @@ use std::{ffi::c_long, hint::black_box};
 use crate::{
     desk::play,
     format::{put, Case, Command, Side},
+    generate::WHOLE_LOG,
     refusals::PAIR,
 };
+
+/// No script may be longer, and no log.
+const MOST_BYTES: usize = WHOLE_LOG as usize;
 
 /// A side that hides nothing.
 fn plain(node: u32, _: u32) -> Side {
@@ -25,23 +29,42 @@ fn window(node: u32, length: u32) -> Side {
     Side { node, offset, limit }
 }
 
-/// The head, so many leaves, and joins of the two nodes that have waited longest, up to one root; then requests for
-/// the root's values 1 to `values`, both ways. `side` says what a join takes of a node of so many outputs.
-fn balanced(leaves: u32, side: fn(u32, u32) -> Side, values: u32) -> Vec<u8> {
+/// The head, and so many leaves.
+fn leaves(count: u32) -> Vec<u8> {
     let mut script = vec![];
-    put(&mut script, leaves);
+    put(&mut script, count);
     put(&mut script, 1);
-    (0..leaves).for_each(|i| Command::Leaf(2 * i).put(&mut script));
-    let mut lengths = vec![1; leaves as usize];
-    for i in 0..leaves - 1 {
+    (0..count).for_each(|i| Command::Leaf(2 * i).put(&mut script));
+    script
+}
+
+/// A request both ways.
+fn request(node: u32, value: u32) -> Command {
+    Command::Request { node, value, direction: 3 }
+}
+
+/// So many leaves, and joins of the two nodes that have waited longest, up to one root; then requests for the root's
+/// values 1 to `values`. `side` says what a join takes of a node of so many outputs.
+fn balanced(count: u32, side: fn(u32, u32) -> Side, values: u32) -> Vec<u8> {
+    let mut script = leaves(count);
+    let mut lengths = vec![1; count as usize];
+    for i in 0..count - 1 {
         let [left, right] = [2 * i, 2 * i + 1].map(|node| side(node, lengths[node as usize]));
         Command::Join(left, right).put(&mut script);
         let length = |s: Side| if s.limit > 0 { s.limit } else { lengths[s.node as usize] - s.offset };
         lengths.push(length(left) + length(right));
     }
-    let root = 2 * leaves - 2;
-    for value in 1..=values {
-        Command::Request { node: root, value, direction: 3 }.put(&mut script);
+    let root = 2 * count - 2;
+    (1..=values).for_each(|value| request(root, value).put(&mut script));
+    script
+}
+
+/// A script, and then a command as often as it fits.
+fn repeated(mut script: Vec<u8>, command: Command) -> Vec<u8> {
+    let mut bytes = vec![];
+    command.put(&mut bytes);
+    while script.len() + bytes.len() <= MOST_BYTES {
+        script.extend(&bytes);
     }
     script
 }
@@ -54,6 +77,15 @@ pub fn script(name: &str) -> Option<Vec<u8>> {
         // value 41 finds 45 bytes left and is refused by 14
         "balanced-41" => balanced(41, plain, 40),
         "windows" => balanced(64, window, 19),
+        // a leaf that is there: newest and oldest, since a search may begin at either end
+        "leaf-newest" => repeated(leaves(64), Command::Leaf(126)),
+        "leaf-oldest" => repeated(leaves(64), Command::Leaf(0)),
+        // of two leaves, so that most requests fit
+        "held" => repeated(balanced(2, plain, 1), request(2, 1)),
+        "held-leaf" => repeated(leaves(1), request(0, 1)),
+        // value 14 finds 999 bytes left and is refused by 14. rustsat knows no end of a log: it carries out the refused
+        // request, and desk.rs then asks question 14 and drops what the request wrote
+        "full" => balanced(64, plain, 64),
         _ => return None,
     })
 }
@@ -66,22 +98,36 @@ extern "C" {
 /// A round takes at least so many microseconds.
 const ROUND: i64 = 50_000;
 
+/// A play with the duty of the library: every byte of a log that is lent is written, the records and then zeros. The
+/// records are copied, since `play` has them in a vector of its own.
+fn play_into(case: &Case, log: &mut [u8]) {
+    let answer = play(black_box(case));
+    let (records, rest) = log.split_at_mut(answer.log.len());
+    records.copy_from_slice(&answer.log);
+    rest.fill(0);
+    // as if both were read: else the compiler may leave out what nobody reads
+    black_box(log);
+    black_box(answer);
+}
+
 /// The microseconds of so many plays.
-fn round(case: &Case, plays: u32) -> i64 {
+fn round(case: &Case, plays: u32, log: &mut [u8]) -> i64 {
     // SAFETY: clock has no preconditions.
     let now = || unsafe { clock() };
     let start = now();
-    (0..plays).for_each(|_| drop(black_box(play(black_box(case)))));
+    (0..plays).for_each(|_| play_into(case, log));
     now() - start
 }
 
 /// The nanoseconds of a play, the median of so many rounds.
 pub fn time(case: &Case, rounds: usize) -> i64 {
+    let mut log = vec![0; case.capacity as usize];
     let mut plays = 1;
-    while round(case, plays) < ROUND {
+    while round(case, plays, &mut log) < ROUND {
         plays *= 2;
     }
-    let mut times: Vec<i64> = (0..rounds).map(|_| 1000 * round(case, plays) / i64::from(plays)).collect();
+    let mut times: Vec<i64> =
+        (0..rounds).map(|_| 1000 * round(case, plays, &mut log) / i64::from(plays)).collect();
     times.sort_unstable();
     times[rounds / 2]
 }
