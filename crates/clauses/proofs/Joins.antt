@@ -1,102 +1,118 @@
--- The sides and outputs of a join, as the code reads them from the lists of the nodes.
-use mathlib.Core.Path.{_≡_, refl, sym, ap, _∙_}
+-- The sides and outputs of a join, as the code has them.
+use mathlib.Core.Path.{_≡_, refl, sym, ap, subst, _∙_}
 use mathlib.Core.Bool.{Bool, true, false}
 use mathlib.Core.Logic.{dite}
 use mathlib.Core.List.{List, [], _∷_}
-use Prim.Native.Nat.{ℕ, zero, suc, _+_, _-_, _*_, _≤_, _<_}
+use Prim.Native.Nat.{ℕ, zero, suc, _+_, _-_, _≤_, _<_}
 use native.Mathlib.Decide.{decLe}
 use native.Mathlib.Omega.{arith}
 use lib.ListN.{length, getD}
+use Rattle.sizes.specs.Sizes.{width, storeAt}
 use Rattle.pb.specs.Sum.{neg}
-use Rattle.totdb.specs.Nodes.{Node, leaf, join, at, len, output, fromFirst, sideLen, sideLit, lengthOver, plainOr, keyed}
+use Rattle.totdb.specs.Nodes.{Node, at, len, leaves, output, fromFirst, sideLen, sideLit, plainOr, keyed}
 use Rattle.totdb.specs.declared.Side.{Side}
-use Rattle.totdb.proofs.Sides.{plain-keyed, keyed-zero, keyed-above}
-use Rattle.cert.specs.Definitions.{Direction, oneDef, sideDef}
+use Rattle.totdb.proofs.Sides.{keyed-zero, keyed-above, plain-keyed}
+use Rattle.cert.specs.Definitions.{Direction, window, oneDef, sideDef}
 use Rattle.cert.specs.Requests.{negPart, posPart}
+use Rattle.cert.specs.Sized.{Sized, Fit}
 use Rattle.cert.specs.State.{Stored, stepIn}
 use Rattle.cert.proofs.Keyed.{short-side, plain-side, window-side}
 use Rattle.derivation.specs.Operands.{operand}
 use Rattle.derivation.specs.declared.SemDefinition.the-variants.{Step}
-use Rattle.define.specs.Tables.{Lists, SideOf, left-of, right-of, SideIn, RealOf, WindowOf, direction}
-use Rattle.define.proofs.Rows.{output-at}
-use Rattle.define.proofs.Sides.{side-length}
-use Rattle.define.proofs.Slots.{side-inside}
-use Rattle.clauses.specs.declared.Join.{Join}
+use Rattle.rows.specs.Windows.{SideAt, left-at, right-at}
+use Rattle.rows.specs.Rows.{Bounded, ShownOf, JoinOf}
+use Rattle.rows.specs.declared.Join.{Join}
+use Rattle.rows.specs.declared.Shown.{Shown}
+use Rattle.rows.proofs.Reading.{from-first}
+use Rattle.rows.proofs.Sides.{side-inside, window-own}
+use Rattle.define.specs.Store.{direction, WindowOf}
+use Rattle.define.specs.Lookups.{RealOf, SideIn}
+use Rattle.define.proofs.Slots.{real-named}
+use Rattle.define.proofs.SideLooks.{plain-value}
 use Rattle.clauses.specs.Firsts.{realStep, windowStep, FirstsOf}
+use Rattle.clauses.specs.Joins.{JoinIn, ClauseIn, SideReach, SideRoom, ClauseReach, clausePart}
 use Rattle.clauses.proofs.Firsts.{real-read, window-read}
-use Rattle.clauses.specs.Joins.{JoinOf, JoinIn, ClauseIn, SideReach, ClauseReach, clausePart}
 
--- ---- the outputs of a node
+-- ---- sides
 
-from-first : (x : Node) (i : ℕ) → 1 ≤ i → i ≤ len x → fromFirst (output x 1) i ≡ output x i
-unfolding fromFirst output len
-from-first (leaf l) i h k = omega arith
-from-first (join ls o a b) i h k = omega arith
+slot-high : {t : List Node} {p w : ℕ} {u : Side} → SideAt t p w u → w + 1 < storeAt (length t)
+slot-high (left-at n ls o l r h e) = omega arith
+slot-high (right-at n ls o l r h e) = omega arith
 
-module _ {ls os : List ℕ} {t : List Node} (l : Lists ls os t) where
-  first-output : (n : ℕ) → n < length t → 1 ≤ len (at t n) → getD os (64 * n) 0 ≡ output (at t n) 1
-  first-output n h k = let e : 64 * n ≡ 64 * n + 1 - 1 = omega arith in ap (λ (p : ℕ). getD os p 0) e ∙ output-at l n h 1 (omega arith) k
-
-  -- ---- sides
-
-  side-literal : {s : Side} (a : ℕ) → SideOf t s → 1 ≤ a → a ≤ sideLen t s
-      → fromFirst (getD os (64 * s .node) 0) (s .offset + a) ≡ sideLit t s a
+module _ {t : List Node} (b : Bounded t) {s : Shown} where
+  side-literal : (a : ℕ) → ShownOf t s → 1 ≤ a → a ≤ s .len → fromFirst (s .first) (s .side .offset + a) ≡ sideLit t (s .side) a
   unfolding sideLit
-  side-literal {s} a o h k =
-      let f = side-inside l s o in
-      ap (λ (first : ℕ). fromFirst first (s .offset + a)) (first-output (s .node) (f .0) (omega (arith, f .1, f .2)))
-      ∙ from-first (at t (s .node)) (s .offset + a) (omega arith) (omega (arith, f .1))
+  side-literal a o h k =
+      let f = side-inside b (o .of) in
+      ap (λ (first : ℕ). fromFirst first (s .side .offset + a)) (o .first)
+      ∙ sym (from-first (at t (s .side .node)) (s .side .offset + a) (omega arith) (omega (arith, f .1, o .length)))
 
-  side-reach : {s : Side} {k a : ℕ} → SideIn t s k a → SideReach os s k a
-  side-reach {s} {k} {a} i =
-      let f = side-inside l s (i .of) in
-      let r = l .row (s .node) (f .0) in
-      let e = side-length t s (i .node-len) in
+  pub side-reach : {a : ℕ} → SideIn t s a → SideReach s a
+  side-reach i =
+      let f = side-inside b (i .shown .of) in
+      let short = b .short (s .side .node) (f .0) in
       record {
-        size = l .outputs-size;
-        node = omega (arith, f .0, l .few);
-        first = rw (first-output (s .node) (f .0) (omega (arith, f .1, f .2))) (r .low 1 (omega arith) (omega (arith, f .1, f .2)));
-        offset = omega (arith, f .1, r .short);
-        short = omega (arith, f .1, r .short, e);
-        value = omega (arith, i .value, e);
+        node = omega (arith, f .0, b .few);
+        first = rw (i .shown .first) (b .low (s .side .node) 1 (f .0) (omega arith) (omega (arith, f .1, f .2)));
+        offset = omega (arith, f .1, short);
+        short = omega (arith, f .1, short, i .shown .length);
+        value = i .value;
       }
 
-  -- ---- a join and its clauses
+  pub side-room : {store : List ℕ} {a : ℕ} → storeAt (length t) ≤ length store → SideIn t s a → SideRoom store s a
+  side-room room i = record {
+    reach = side-reach i;
+    row = omega (arith, room, side-inside b (i .shown .of) .0);
+    window = omega (arith, room, slot-high (i .shown .of));
+  }
 
-  pub last-literal : {x : Join} {v : ℕ} → JoinIn t x v → getD os (64 * x .node + v - 1) 0 ≡ output (at t (x .node)) v
-  last-literal {x} {v} i =
-      output-at l (x .node) (i .of .there) v (i .above) (omega (arith, i .within, i .of .own-len))
+-- ---- a join and its clauses
+
+-- A join is as long as its sides.
+pub join-fits : {t : List Node} {x : Join} → Bounded t → JoinOf t x → len (at t (x .node)) ≡ x .left .len + x .right .len
+unfolding Sized Fit len leaves
+join-fits {t} {x} b i =
+    let f = subst (Fit t (x .node)) (i .is) (b .sized (x .node) (i .there)) in
+    ap (λ (y : Node). len y) (i .is) ∙ f .5 ∙ rw (i .left .length, i .right .length)
 
 module _ {t : List Node} {x : Join} where
-  left-side : JoinOf t x → SideOf t (x .left)
-  left-side i = left-of (x .node) (i .leaf-list) (i .variable) (x .right) (i .there) (i .is)
-
-  right-side : JoinOf t x → SideOf t (x .right)
-  right-side i = right-of (x .node) (i .leaf-list) (i .variable) (x .left) (i .there) (i .is)
+  pub last-literal : {v : ℕ} → JoinIn t x v → fromFirst (x .first) v ≡ output (at t (x .node)) v
+  last-literal {v} i =
+      ap (λ (first : ℕ). fromFirst first v) (i .of .first) ∙ sym (from-first (at t (x .node)) v (i .above) (i .within))
 
   module _ {v i j : ℕ} {b : Bool} (k : ClauseIn t x v i j b) where
-    pub left-in : SideIn t (x .left) (x .«left_len») i
-    left-in = record { of = left-side (k .of .of); node-len = k .of .of .left-len; value = k .left .top }
+    pub left-in : SideIn t (x .left) i
+    left-in = record { shown = k .of .of .left; value = k .left .top }
 
-    pub right-in : SideIn t (x .right) (x .«right_len») j
-    right-in = record { of = right-side (k .of .of); node-len = k .of .of .right-len; value = k .right .top }
+    pub right-in : SideIn t (x .right) j
+    right-in = record { shown = k .of .of .right; value = k .right .top }
 
-    pub this-in : RealOf t (x .node) (x .len) v
-    this-in = record { there = k .of .of .there; node-len = k .of .of .own-len; value = omega (arith, k .of .within) }
+    module _ (bd : Bounded t) where
+      pub this-in : RealOf t (x .node) v
+      this-in =
+          let f = join-fits bd (k .of .of) in
+          let l = side-inside bd (left-in .shown .of) .2 in
+          let r = side-inside bd (right-in .shown .of) .2 in
+          record {
+            there = k .of .of .there;
+            long = omega (arith, f, l, r, k .of .of .left .length, k .of .of .right .length);
+            value = omega (arith, k .of .within);
+          }
 
-    pub clause-reach : {ls os : List ℕ} → Lists ls os t → ClauseReach os x v i j b
-    clause-reach l =
-        let e = side-length t (x .left) (left-in .node-len) in
-        let f = side-length t (x .right) (right-in .node-len) in
-        record {
-          node = omega (arith, k .of .of .there, l .few);
-          above = k .of .above;
-          within = omega (arith, k .of .within, k .of .of .own-len, l .row (x .node) (k .of .of .there) .short);
-          left = side-reach l left-in;
-          right = side-reach l right-in;
-          left-in = rw (← e) (k .left);
-          right-in = rw (← f) (k .right);
-        }
+      pub clause-reach : (store : List ℕ) → storeAt (length t) ≤ length store → ClauseReach store x v i j b
+      clause-reach store room =
+          let h = k .of .of .there in
+          record {
+            node = omega (arith, h, bd .few);
+            row = omega (arith, h, room);
+            first = rw (k .of .of .first) (bd .low (x .node) 1 h (omega arith) (omega (arith, k .of .above, k .of .within)));
+            above = k .of .above;
+            within = omega (arith, k .of .within, bd .short (x .node) h);
+            left = side-room bd room left-in;
+            right = side-room bd room right-in;
+            left-in = k .left;
+            right-in = k .right;
+          }
 
 -- ---- a side, by the cases of the code
 
@@ -121,52 +137,63 @@ unfolding negPart
 neg-one t s zero h = absurd (omega arith)
 neg-one t s (suc a) h = refl
 
-pub keyed-low : {os : List ℕ} {s : Side} {k a : ℕ} → SideReach os s k a → plainOr (s .offset) (s .limit) true false ≡ true → keyed s a ≤ 65
-keyed-low {s = s} {a = a} r p = omega (arith, plain-keyed s p a, r .short, r .value)
+pub keyed-low : {s : Shown} {a : ℕ} → SideReach s a → plainOr (s .side .offset) (s .side .limit) true false ≡ true → keyed (s .side) a ≤ width + 1
+keyed-low {s} {a} r p = omega (arith, plain-keyed (s .side) p a, r .short, r .value)
 
 -- 0, or above the offset.
-pub keyed-in : {os : List ℕ} {s : Side} {k a : ℕ} → SideReach os s k a → (0 < keyed s a → s .offset < keyed s a) × (keyed s a ≤ s .offset + 65)
-keyed-in {s = s} {a = a} r = by (decLe a 0)
+pub keyed-in : {s : Shown} {a : ℕ} → SideReach s a
+    → (0 < keyed (s .side) a → s .side .offset < keyed (s .side) a) × (keyed (s .side) a ≤ s .side .offset + width + 1)
+keyed-in {s} {a} r = by (decLe a 0)
   where
-    by : Dec (a ≤ 0) → (0 < keyed s a → s .offset < keyed s a) × (keyed s a ≤ s .offset + 65)
-    by (yes p) = let e = keyed-zero s a (omega arith) in (λ h. omega arith, omega arith)
-    by (no p) = let e = keyed-above s a (omega arith) in (λ h. omega arith, omega (arith, r .short, r .value))
+    by : Dec (a ≤ 0) → (0 < keyed (s .side) a → s .side .offset < keyed (s .side) a) × (keyed (s .side) a ≤ s .side .offset + width + 1)
+    by (yes p) = let e = keyed-zero (s .side) a (omega arith) in (λ h. omega arith, omega arith)
+    by (no p) = let e = keyed-above (s .side) a (omega arith) in (λ h. omega arith, omega (arith, r .short, r .value))
 
-module _ {ls os : List ℕ} {t : List Node} (l : Lists ls os t) {s : Side} {k a : ℕ} (i : SideIn t s k a) where
-  pub only-absent : lengthOver s k < a → [] ≡ clausePart true t s a
+module _ {t : List Node} (b : Bounded t) {s : Shown} {a : ℕ} (i : SideIn t s a) where
+  pub only-absent : s .len < a → [] ≡ clausePart true t (s .side) a
   unfolding clausePart
-  only-absent h = pos-none t s a (omega (arith, side-length t s (i .node-len)))
+  only-absent h = pos-none t (s .side) a (omega (arith, i .shown .length))
 
-  pub only-literal : 1 ≤ a → a ≤ lengthOver s k → fromFirst (getD os (64 * s .node) 0) (s .offset + a) ∷ [] ≡ clausePart true t s a
+  pub only-literal : 1 ≤ a → a ≤ s .len → fromFirst (s .first) (s .side .offset + a) ∷ [] ≡ clausePart true t (s .side) a
   unfolding clausePart
-  only-literal h g = rw (side-literal l a (i .of) h (omega (arith, side-length t s (i .node-len)))) (pos-one t s a (omega (arith, side-length t s (i .node-len))))
+  only-literal h g = rw (side-literal b a (i .shown) h g) (pos-one t (s .side) a (omega (arith, i .shown .length)))
 
-  pub if-absent : a ≡ 0 → [] ≡ clausePart false t s a
+  pub if-absent : a ≡ 0 → [] ≡ clausePart false t (s .side) a
   unfolding clausePart negPart
   if-absent e = rw e
 
-  pub if-literal : 1 ≤ a → a ≤ lengthOver s k → neg (fromFirst (getD os (64 * s .node) 0) (s .offset + a)) ∷ [] ≡ clausePart false t s a
+  pub if-literal : 1 ≤ a → a ≤ s .len → neg (fromFirst (s .first) (s .side .offset + a)) ∷ [] ≡ clausePart false t (s .side) a
   unfolding clausePart
-  if-literal h g = rw (side-literal l a (i .of) h (omega (arith, side-length t s (i .node-len)))) (neg-one t s a h)
+  if-literal h g = rw (side-literal b a (i .shown) h g) (neg-one t (s .side) a h)
 
-  pub one-operand : (d : Direction) → lengthOver s k ≤ 1 → oneDef (fromFirst (getD os (64 * s .node) 0) (s .offset + 1)) a ≡ sideDef t s a d
+  pub one-operand : (d : Direction) → s .len ≤ 1 → oneDef (fromFirst (s .first) (s .side .offset + 1)) a ≡ sideDef t (s .side) a d
   one-operand d h =
-      ap (λ (o : ℕ). oneDef o a) (side-literal l 1 (i .of) (omega arith) (side-inside l s (i .of) .2))
-      ∙ sym (short-side t s a d (omega (arith, side-length t s (i .node-len))))
+      ap (λ (o : ℕ). oneDef o a) (side-literal b 1 (i .shown) (omega arith) (omega (arith, side-inside b (i .shown .of) .2, i .shown .length)))
+      ∙ sym (short-side t (s .side) a d (omega (arith, i .shown .length)))
 
-  module _ {firsts : List ℕ} {es : List Stored} (f : FirstsOf t firsts es) (b : Bool) (h : 1 < lengthOver s k) where
-    pub plain-operand : plainOr (s .offset) (s .limit) true false ≡ true
-        → Step (realStep (getD firsts (68 * s .node + keyed s a) 0) (keyed s a) b) ≡ operand (stepIn es) (sideDef t s a (direction b))
+  module _ {store : List ℕ} {es : List Stored} (f : FirstsOf t store es) (q : Bool) (h : 1 < s .len) where
+    pub plain-operand : plainOr (s .side .offset) (s .side .limit) true false ≡ true
+        → Step (realStep (getD store (storeAt (s .side .node) + keyed (s .side) a) 0) (keyed (s .side) a) q)
+        ≡ operand (stepIn es) (sideDef t (s .side) a (direction q))
     plain-operand p =
-        let d = plain-side t s a (direction b) (omega (arith, side-length t s (i .node-len))) p in
-        let r = side-reach l i in
-        rw (plain-keyed s p a, d) (real-read f (s .node) a b (r .node) (omega (arith, r .short, r .value)))
+        let d = plain-side t (s .side) a (direction q) (omega (arith, h, i .shown .length)) p in
+        let u = real-named b (plain-value b h p i) .used in
+        rw (plain-keyed (s .side) p a, d) (real-read f (s .side .node) a q (rw (plain-keyed (s .side) p a) at u))
 
-    pub window-operand : plainOr (s .offset) (s .limit) true false ≡ false
-        → Step (windowStep (getD firsts (68 * s .node + 66) 0) (getD firsts (68 * s .node + 67) 0) (s .offset) (keyed s a) b)
-        ≡ operand (stepIn es) (sideDef t s a (direction b))
+    pub window-operand : plainOr (s .side .offset) (s .side .limit) true false ≡ false
+        → Step (windowStep (getD store (s .window) 0) (getD store (s .window + 1) 0) (s .side .offset) (keyed (s .side) a) q)
+        ≡ operand (stepIn es) (sideDef t (s .side) a (direction q))
     window-operand p =
-        let d = window-side t s a (direction b) (omega (arith, side-length t s (i .node-len))) p in
-        let w : WindowOf t (s .node) (s .offset) (sideLen t s)
-        = record { side = s; of = i .of; node = refl; offset = refl; outputs = refl; long = omega (arith, side-length t s (i .node-len)) } in
-        rw d (window-read f (s .node) (s .offset) (sideLen t s) (keyed s a) b w)
+        let d = window-side t (s .side) a (direction q) (omega (arith, h, i .shown .length)) p in
+        let w : WindowOf t (s .side .node) (s .side .offset) (sideLen t (s .side))
+        = record {
+          place = i .shown .place;
+          slot = s .window;
+          side = s .side;
+          of = i .shown .of;
+          node = refl;
+          offset = refl;
+          outputs = refl;
+          long = omega (arith, h, i .shown .length);
+        } in
+        rw d (window-read f w (window-own b (i .shown .of)) (keyed (s .side) a) q)

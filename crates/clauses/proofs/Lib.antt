@@ -1,5 +1,4 @@
--- What the code reads and writes for a clause, as facts about its memory and the state that it stands for.
-pub mod Standing
+-- What the code of clauses rests on.
 pub mod Firsts
 pub mod Joins
 pub mod Written

@@ -1,5 +1,5 @@
 -- The clauses of a value, one for each split of a sum over the two sides.
-use mathlib.Core.Path.{_≡_, refl, sym, ap, subst, _∙_}
+use mathlib.Core.Path.{_≡_, refl, sym, ap, _∙_}
 use mathlib.Core.Bool.{Bool, true, false, true≢false}
 use mathlib.Core.List.{List, [], _∷_, map, map-append}
 use Prim.Native.Nat.{ℕ, suc, _+_, _-_, _≤_, min}
@@ -7,28 +7,20 @@ use native.Mathlib.Omega.{arith}
 use Rattle.memo.specs.Visit.{each}
 use Rattle.memo.proofs.Lists.{map-agree}
 use Rattle.memo.proofs.Unrolled.{each-append}
-use Rattle.totdb.specs.Nodes.{Node, join, at, leaves, len, range, sideLen, lengthOver}
+use Rattle.totdb.specs.Nodes.{Node, join, at, range, sideLen}
 use Rattle.cert.specs.Definitions.{if, only-if}
 use Rattle.cert.specs.Requests.{Clause, request, clausesOf, clausesAt, ifClause, onlyIfClause, splits}
-use Rattle.cert.specs.Sized.{Sized, Fit}
 use Rattle.cert.specs.State.{State, writeClause}
 use Rattle.cert.proofs.Apart.{splits-mem}
-use Rattle.define.specs.Tables.{Lists, Memory, Does, Shown, direction}
-use Rattle.define.proofs.Does.{does-none, does-then, does-under, does-same}
-use Rattle.define.proofs.Sides.{side-length}
-use Rattle.define.proofs.Stores.{range-snoc}
-use Rattle.clauses.specs.declared.Join.{Join}
+use Rattle.totdb.proofs.Listed.{range-snoc}
+use Rattle.rows.specs.declared.Join.{Join}
+use Rattle.define.specs.Store.{direction}
+use Rattle.define.specs.Represents.{Memory, Represented, Simulates}
+use Rattle.define.proofs.Simulates.{sims-none, sims-then, sims-under, sims-same}
 use Rattle.clauses.specs.Joins.{JoinIn, ClauseIn, Within, clauseOf, clausePart, lastLiteral, splitSum, leftValue}
+use Rattle.clauses.proofs.Joins.{join-fits}
 
 -- ---- which splits there are
-
--- A join is as long as its sides.
-join-fits : {ls os : List ℕ} {t : List Node} {x : Join} {v : ℕ} → Lists ls os t → JoinIn t x v
-    → len (at t (x .node)) ≡ sideLen t (x .left) + sideLen t (x .right)
-unfolding Sized Fit len leaves
-join-fits {t = t} {x = x} l i =
-    let f = subst (Fit t (x .node)) (i .of .is) (l .sized (x .node) (i .of .there)) in
-    ap (λ (y : Node). len y) (i .of .is) ∙ f .5
 
 sum-low : (v : ℕ) (b : Bool) → splitSum v b ≤ v
 unfolding splitSum
@@ -37,25 +29,25 @@ sum-low v false = omega arith
 
 -- The bounds of the loop.
 pub record Between (x : Join) (v : ℕ) (b : Bool) (low high : ℕ) : Type 0 where
-  pub low-is : low ≡ splitSum v b - lengthOver (x .right) (x .«right_len»)
-  pub high-is : high ≡ min (splitSum v b) (lengthOver (x .left) (x .«left_len»))
+  pub low-is : low ≡ splitSum v b - x .right .len
+  pub high-is : high ≡ min (splitSum v b) (x .left .len)
   pub some : low ≤ high
   pub short : high ≤ 64
   pub within : high ≤ v
 
-pub between : {ls os : List ℕ} {x : Join} {v : ℕ} {b : Bool} {low high p q sum : ℕ} {m : Memory} → Shown ls os (λ t. JoinIn t x v) m
-    → p ≡ lengthOver (x .left) (x .«left_len») → q ≡ lengthOver (x .right) (x .«right_len») → sum ≡ splitSum v b
-    → low ≡ sum - q → high ≡ min sum p → Between x v b low high
-between {x = x} {v} {b} s e f g d k =
+pub between : {ns : List ℕ} {x : Join} {v : ℕ} {b : Bool} {low high sum : ℕ} {m : Memory} → Represented ns (λ t s. JoinIn t x v) m
+    → sum ≡ splitSum v b → low ≡ sum - x .right .len → high ≡ min sum (x .left .len) → Between x v b low high
+between {x = x} {v} {b} s g d k =
     let i = s .holds in
-    let sides = join-fits (s .lists) i in
+    let bd = s .table .bounded in
+    let sides = join-fits bd (i .of) in
     let less = sum-low v b in
-    let r = s .lists .row (x .node) (i .of .there) in
+    let short = bd .short (x .node) (i .of .there) in
     record {
       low-is = omega arith;
       high-is = omega arith;
-      some = omega (arith, sides, less, side-length (s .table) (x .left) (i .of .left-len), side-length (s .table) (x .right) (i .of .right-len), i .within, i .of .own-len);
-      short = omega (arith, less, r .short, i .within, i .of .own-len);
+      some = omega (arith, sides, less, i .within);
+      short = omega (arith, less, short, i .within);
       within = omega (arith, less);
     }
 
@@ -64,18 +56,18 @@ pub split-in : {x : Join} {v : ℕ} {b : Bool} {low high : ℕ} → Between x v 
 unfolding splitSum leftValue
 split-in {x} {v} {b} {low} {high} w a h k e t i = record {
   of = i;
-  left = rw (e, side-length t (x .left) (i .of .left-len)) (left-within b (w .high-is));
-  right = rw (side-length t (x .right) (i .of .right-len)) (right-within b (i .above) (w .low-is) (w .high-is));
+  left = rw e (left-within b (w .high-is));
+  right = right-within b (i .above) (w .low-is) (w .high-is);
 }
   where
-    left-within : (b : Bool) → high ≡ min (splitSum v b) (lengthOver (x .left) (x .«left_len»))
-        → Within b (lengthOver (x .left) (x .«left_len»)) (leftValue a b)
+    left-within : (b : Bool) → high ≡ min (splitSum v b) (x .left .len)
+        → Within b (x .left .len) (leftValue a b)
     left-within true e = record { above = λ _. omega arith; below = λ f. absurd (true≢false f); top = omega arith }
     left-within false e = record { above = λ f. absurd (true≢false (sym f)); below = λ _. omega arith; top = omega arith }
 
-    right-within : (b : Bool) → 1 ≤ v → low ≡ splitSum v b - lengthOver (x .right) (x .«right_len»)
-        → high ≡ min (splitSum v b) (lengthOver (x .left) (x .«left_len»))
-        → Within b (lengthOver (x .right) (x .«right_len»)) (v - a)
+    right-within : (b : Bool) → 1 ≤ v → low ≡ splitSum v b - x .right .len
+        → high ≡ min (splitSum v b) (x .left .len)
+        → Within b (x .right .len) (v - a)
     right-within true g d e = record { above = λ _. omega arith; below = λ f. absurd (true≢false f); top = omega arith }
     right-within false g d e = record { above = λ f. absurd (true≢false (sym f)); below = λ _. omega arith; top = omega arith }
 
@@ -94,23 +86,23 @@ range-same e f = rw (e, f)
 
 -- The clauses of a value are those of all splits.
 module _ {t : List Node} {x : Join} {v : ℕ} (i : JoinIn t x v) where
-  at-join : (y : Node) (m : List ℕ) (o : ℕ) → y ≡ join m o (x .left) (x .right)
-      → (clausesAt t (x .node) y v if ≡ map {B = Clause} (ifClause t (x .node) y (x .left) (x .right) v) (splits v (sideLen t (x .left)) (sideLen t (x .right))))
+  at-join : (y : Node) (m : List ℕ) (o : ℕ) → y ≡ join m o (x .left .side) (x .right .side)
+      → (clausesAt t (x .node) y v if ≡ map {B = Clause} (ifClause t (x .node) y (x .left .side) (x .right .side) v) (splits v (sideLen t (x .left .side)) (sideLen t (x .right .side))))
       × (clausesAt t (x .node) y v only-if
-      ≡ map {B = Clause} (onlyIfClause t (x .node) y (x .left) (x .right) v) (splits (v - 1) (sideLen t (x .left)) (sideLen t (x .right))))
+      ≡ map {B = Clause} (onlyIfClause t (x .node) y (x .left .side) (x .right .side) v) (splits (v - 1) (sideLen t (x .left .side)) (sideLen t (x .right .side))))
   unfolding clausesAt
   at-join y m o e = rw e (refl, refl)
 
   splits-are : {b : Bool} {low high : ℕ} → Between x v b low high
-      → splits (splitSum v b) (sideLen t (x .left)) (sideLen t (x .right)) ≡ range low (high + 1 - low)
+      → splits (splitSum v b) (sideLen t (x .left .side)) (sideLen t (x .right .side)) ≡ range low (high + 1 - low)
   unfolding splits
   splits-are {b} {low} {high} w =
-      let e : splitSum v b - sideLen t (x .right) ≡ low = omega (arith, w .low-is, side-length t (x .right) (i .of .right-len)) in
-      let f : suc (min (splitSum v b) (sideLen t (x .left))) - (splitSum v b - sideLen t (x .right)) ≡ high + 1 - low
-      = omega (arith, w .low-is, w .high-is, side-length t (x .left) (i .of .left-len), side-length t (x .right) (i .of .right-len)) in
+      let e : splitSum v b - sideLen t (x .right .side) ≡ low = omega (arith, w .low-is, i .of .right .length) in
+      let f : suc (min (splitSum v b) (sideLen t (x .left .side))) - (splitSum v b - sideLen t (x .right .side)) ≡ high + 1 - low
+      = omega (arith, w .low-is, w .high-is, i .of .left .length, i .of .right .length) in
       range-same e f
 
-  only-same : (a : ℕ) → a ≤ v - 1 → onlyIfClause t (x .node) (at t (x .node)) (x .left) (x .right) v a ≡ splitClause t x v true a
+  only-same : (a : ℕ) → a ≤ v - 1 → onlyIfClause t (x .node) (at t (x .node)) (x .left .side) (x .right .side) v a ≡ splitClause t x v true a
   unfolding leftValue clauseOf clausePart lastLiteral onlyIfClause direction
   only-same a h =
       let e : suc a ≡ a + 1 = omega arith in
@@ -125,23 +117,23 @@ module _ {t : List Node} {x : Join} {v : ℕ} (i : JoinIn t x v) where
       ∙ ap (map {B = Clause} (splitClause t x v false)) (splits-are w)
   clauses-are true w =
       at-join (at t (x .node)) (i .of .leaf-list) (i .of .variable) (i .of .is) .1
-      ∙ map-agree (splits (v - 1) (sideLen t (x .left)) (sideLen t (x .right)))
-      (λ a m. only-same a (splits-mem (v - 1) (sideLen t (x .left)) (sideLen t (x .right)) a m .0))
+      ∙ map-agree (splits (v - 1) (sideLen t (x .left .side)) (sideLen t (x .right .side)))
+      (λ a m. only-same a (splits-mem (v - 1) (sideLen t (x .left .side)) (sideLen t (x .right .side)) a m .0))
       ∙ ap (map {B = Clause} (splitClause t x v true)) (splits-are w)
 
-module _ {ls os : List ℕ} {x : Join} {v : ℕ} where
-  pub none-yet : (b : Bool) (low : ℕ) {m : Memory} → Does ls os (λ t. JoinIn t x v) (splitsTo x v b low low) m m
+module _ {ns : List ℕ} {x : Join} {v : ℕ} where
+  pub none-yet : (b : Bool) (low : ℕ) {m : Memory} → Simulates ns (λ t u. JoinIn t x v) (splitsTo x v b low low) m m
   unfolding each range
   none-yet b low =
       let e : 0 ≡ low - low = omega arith in
-      does-same (λ t u l i. ap (λ (k : ℕ). each (writeClause t) (map {B = Clause} (splitClause t x v b) (range low k)) u) e) does-none
+      sims-same (λ t u l i. ap (λ (k : ℕ). each (writeClause t) (map {B = Clause} (splitClause t x v b) (range low k)) u) e) sims-none
 
   pub one-more : {b : Bool} {low high : ℕ} (a : ℕ) {j : ℕ} {m n p : Memory} → Between x v b low high → low ≤ a → a ≤ high → j ≡ leftValue a b
-      → Does ls os (λ t. JoinIn t x v) (splitsTo x v b low a) m n
-      → Does ls os (λ t. ClauseIn t x v j (v - a) b) (λ t u. writeClause t (clauseOf t x v j (v - a) b) u) n p
-      → Does ls os (λ t. JoinIn t x v) (splitsTo x v b low (a + 1)) m p
+      → Simulates ns (λ t u. JoinIn t x v) (splitsTo x v b low a) m n
+      → Simulates ns (λ t u. ClauseIn t x v j (v - a) b) (λ t u. writeClause t (clauseOf t x v j (v - a) b) u) n p
+      → Simulates ns (λ t u. JoinIn t x v) (splitsTo x v b low (a + 1)) m p
   unfolding each
-  one-more {b} {low} a {j} w h k e c d = does-same (λ t u l i. one t u) (does-then c (does-under (λ t l i. split-in w a h k e t i) d))
+  one-more {b} {low} a {j} w h k e c d = sims-same (λ t u l i. one t u) (sims-then c (sims-under (λ t u l i. split-in w a h k e t i) d))
     where
       one : (t : List Node) (u : State)
           → writeClause t (clauseOf t x v j (v - a) b) (splitsTo x v b low a t u) ≡ splitsTo x v b low (a + 1) t u
@@ -158,8 +150,8 @@ module _ {ls os : List ℕ} {x : Join} {v : ℕ} where
           )
 
   pub all-done : {b : Bool} {low high : ℕ} (a : ℕ) {m n : Memory} → Between x v b low high → a ≡ high + 1
-      → Does ls os (λ t. JoinIn t x v) (splitsTo x v b low a) m n
-      → Does ls os (λ t. JoinIn t x v) (λ t u. each (writeClause t) (clausesOf t (request (x .node) v (direction b))) u) m n
+      → Simulates ns (λ t u. JoinIn t x v) (splitsTo x v b low a) m n
+      → Simulates ns (λ t u. JoinIn t x v) (λ t u. each (writeClause t) (clausesOf t (request (x .node) v (direction b))) u) m n
   all-done {b} {low} {high} a w e d =
-      does-same (λ t u l i. ap (λ (ks : List Clause). each (writeClause t) ks u)
+      sims-same (λ t u l i. ap (λ (ks : List Clause). each (writeClause t) ks u)
       (ap (λ (k : ℕ). map {B = Clause} (splitClause t x v b) (range low (k - low))) e ∙ sym (clauses-are i b w))) d

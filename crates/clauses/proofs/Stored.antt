@@ -1,26 +1,35 @@
 -- Where what a clause looks up is stored, its lookups do nothing.
 use mathlib.Core.Path.{_≡_, refl, _∙_}
-use mathlib.Core.Bool.{Bool, true, false, not, _&&_, and-false}
+use mathlib.Core.Bool.{Bool, true, false, not, _&&_}
 use mathlib.Core.List.{List}
-use Prim.Native.Nat.{ℕ, zero, suc, _+_, _*_, _≤_, _<_}
+use Prim.Native.Nat.{ℕ, zero, suc, _+_, _≤_, _<_}
 use native.Mathlib.Decide.{decLe}
 use native.Mathlib.Omega.{arith}
 use borrow.Author.Tests.{le-leb, lt-leb}
+use lib.ListN.{length}
+use Rattle.sizes.specs.Sizes.{storeAt}
 use Rattle.memo.specs.Visit.{each}
-use Rattle.totdb.specs.Nodes.{Node, plainOr, lengthOver, keyed}
-use Rattle.totdb.specs.declared.Side.{Side}
-use Rattle.cert.specs.Definitions.{Key, Direction, real, window, sideDef}
+use Rattle.totdb.specs.Nodes.{Node, plainOr, keyed}
+use Rattle.cert.specs.Definitions.{Direction, Key, real, window, sideDef}
 use Rattle.cert.specs.Requests.{keyOf, looksOf}
-use Rattle.cert.specs.State.{lookUp}
-use Rattle.define.specs.Tables.{Lists, Memory, Does, SideIn, slot, direction}
-use Rattle.define.proofs.Looks.{full-does, there-does}
-use Rattle.define.proofs.Sides.{short-does, plain-does, side-does}
+use Rattle.cert.specs.State.{State, lookUp}
+use Rattle.rows.specs.Rows.{Table}
+use Rattle.rows.specs.declared.Join.{Join}
+use Rattle.rows.specs.declared.Shown.{Shown}
+use Rattle.define.specs.Store.{direction, slot}
+use Rattle.define.specs.Represents.{Memory, Simulates}
+use Rattle.define.specs.Lookups.{SideIn}
+use Rattle.define.proofs.Looks.{look-up-grows, sims-there}
+use Rattle.define.proofs.SideLooks.{short-looks, plain-looks, window-looks}
+use Rattle.define.proofs.Simulates.{sims-full}
 use Rattle.define.proofs.Slots.{Named, real-named, window-named}
-use Rattle.define.proofs.Written.{true-false}
-use Rattle.clauses.specs.declared.Join.{Join}
+use Rattle.define.proofs.Windows.{window-of, window-slots}
 use Rattle.clauses.specs.Firsts.{hasFirst, sideStored, clauseStored}
 use Rattle.clauses.specs.Joins.{ClauseIn, clauseOf}
-use Rattle.clauses.proofs.Written.{does-looks}
+use Rattle.clauses.proofs.Written.{sims-looks}
+
+pub true-false : {A : Type 0} {b : Bool} → b ≡ true → b ≡ false → A
+true-false p q = absurd (let z : _≡_ {A = ℕ} 0 1 = cc in omega arith)
 
 -- ---- the tests
 
@@ -36,57 +45,66 @@ plain-second zero zero a b h = true-false refl h
 plain-second zero (suc k) a b h = refl
 plain-second (suc f) k a b h = refl
 
-module _ (firsts : List ℕ) (s : Side) (k a : ℕ) where
-  pub short-stored : lengthOver s k ≤ 1 → true ≡ sideStored firsts s k a
+and-false : (a : Bool) → (a && false) ≡ false
+and-false true = refl
+and-false false = refl
+
+module _ (store : List ℕ) (s : Shown) (a : ℕ) where
+  pub short-stored : s .len ≤ 1 → true ≡ sideStored store s a
   unfolding sideStored
   short-stored h = rw (le-leb _ _ h)
 
-  pub long-stored : 1 < lengthOver s k → {p : ℕ} → plainOr (s .offset) (s .limit) (68 * s .node + keyed s a) (68 * s .node + 67) ≡ p
-      → hasFirst firsts p ≡ sideStored firsts s k a
+  pub long-stored : 1 < s .len → {p : ℕ}
+      → plainOr (s .side .offset) (s .side .limit) (storeAt (s .side .node) + keyed (s .side) a) (s .window + 1) ≡ p
+      → hasFirst store p ≡ sideStored store s a
   unfolding sideStored
   long-stored h e = rw (lt-leb _ _ h, e)
 
-module _ (firsts : List ℕ) (x : Join) (v i j : ℕ) where
-  pub this-missing : hasFirst firsts (68 * x .node + v) ≡ false → false ≡ clauseStored firsts x v i j
+module _ (store : List ℕ) (x : Join) (v i j : ℕ) where
+  pub this-missing : hasFirst store (storeAt (x .node) + v) ≡ false → false ≡ clauseStored store x v i j
   unfolding clauseStored
   this-missing e = rw e
 
-  pub left-missing : sideStored firsts (x .left) (x .«left_len») i ≡ false → false ≡ clauseStored firsts x v i j
+  pub left-missing : sideStored store (x .left) i ≡ false → false ≡ clauseStored store x v i j
   unfolding clauseStored
-  left-missing e = rw (e, and-false (hasFirst firsts (68 * x .node + v)))
+  left-missing e = rw (e, and-false (hasFirst store (storeAt (x .node) + v)))
 
-  pub right-last : hasFirst firsts (68 * x .node + v) ≡ true → sideStored firsts (x .left) (x .«left_len») i ≡ true
-      → sideStored firsts (x .right) (x .«right_len») j ≡ clauseStored firsts x v i j
+  pub right-last : hasFirst store (storeAt (x .node) + v) ≡ true → sideStored store (x .left) i ≡ true
+      → sideStored store (x .right) j ≡ clauseStored store x v i j
   unfolding clauseStored
   right-last e f = rw (e, f)
 
 -- ---- lookups
 
-module _ {ls os : List ℕ} {P : List Node → Type 0} (k : Key) (m : Memory) (named : (t : List Node) → Lists ls os t → P t → Named t k) where
-  stored-does : hasFirst (m .firsts) (slot k) ≡ true → Does ls os P (λ t s. lookUp t k s) m m
-  stored-does h = by (m .out .cursor .full) refl
+module _ {ns : List ℕ} {P : List Node → State → Type 0} (k : Key) (p : ℕ) (m : Memory)
+    (named : (t : List Node) (s : State) → Table ns t → P t s → Named t k) (place : (t : List Node) (s : State) → Table ns t → P t s → slot t k ≡ p) where
+  sims-stored-key : hasFirst (m .store) p ≡ true → Simulates ns P (λ t s. lookUp t k s) m m
+  sims-stored-key h = by (decLe (m .out .at) (length (m .log)))
     where
-      by : (b : Bool) → m .out .cursor .full ≡ b → Does ls os P (λ t s. lookUp t k s) m m
-      by true e = full-does k m e
-      by false e = there-does k m e named (λ z. true-false (rw z at h) refl)
+      by : Dec (m .out .at ≤ length (m .log)) → Simulates ns P (λ t s. lookUp t k s) m m
+      by (yes e) = sims-there k p m e named place (λ z. true-false (rw z at h) refl)
+      by (no e) = sims-full (look-up-grows k) (omega arith)
 
-module _ {ls os : List ℕ} (s : Side) (k a : ℕ) (d : Direction) (m : Memory) where
-  stored-side : sideStored (m .firsts) s k a ≡ true
-      → Does ls os (λ t. SideIn t s k a) (λ t u. each (lookUp t) (keyOf (sideDef t s a d)) u) m m
-  stored-side h = by (decLe (lengthOver s k) 1)
+module _ {ns : List ℕ} (s : Shown) (a : ℕ) (d : Direction) (m : Memory) where
+  sims-stored-side : sideStored (m .store) s a ≡ true
+      → Simulates ns (λ t u. SideIn t s a) (λ t u. each (lookUp t) (keyOf (sideDef t (s .side) a d)) u) m m
+  sims-stored-side h = by (decLe (s .len) 1)
     where
-      long : (b : Bool) → plainOr (s .offset) (s .limit) true false ≡ b → 1 < lengthOver s k
-          → Does ls os (λ t. SideIn t s k a) (λ t u. each (lookUp t) (keyOf (sideDef t s a d)) u) m m
-      long true p g = plain-does s k a d g p
-          (stored-does (real (s .node) (keyed s a)) m (λ t l q. real-named l q) (unfold slot in long-stored (m .firsts) s k a g (plain-first (s .offset) (s .limit) _ _ p) ∙ h))
-      long false p g = side-does s k a d g p
-          (stored-does (window (s .node) (s .offset) (lengthOver s k)) m (λ t l q. window-named l (q .shown))
-          (unfold slot in long-stored (m .firsts) s k a g (plain-second (s .offset) (s .limit) _ _ p) ∙ h))
+      long : (b : Bool) → plainOr (s .side .offset) (s .side .limit) true false ≡ b → 1 < s .len
+          → Simulates ns (λ t u. SideIn t s a) (λ t u. each (lookUp t) (keyOf (sideDef t (s .side) a d)) u) m m
+      long true p g = plain-looks s a g d p
+          (sims-stored-key (real (s .side .node) (keyed (s .side) a)) (storeAt (s .side .node) + keyed (s .side) a) m
+          (λ t u l q. real-named (l .bounded) q) (λ t u l q. unfold slot in refl)
+          (long-stored (m .store) s a g (plain-first (s .side .offset) (s .side .limit) _ _ p) ∙ h))
+      long false p g = window-looks s a g d p
+          (sims-stored-key (window (s .side .node) (s .side .offset) (s .len)) (s .window + 1) m
+          (λ t u l q. window-named (l .bounded) (window-of (l .bounded) s q)) (λ t u l q. window-slots (l .bounded) s q .1)
+          (long-stored (m .store) s a g (plain-second (s .side .offset) (s .side .limit) _ _ p) ∙ h))
 
-      by : Dec (lengthOver s k ≤ 1)
-          → Does ls os (λ t. SideIn t s k a) (λ t u. each (lookUp t) (keyOf (sideDef t s a d)) u) m m
-      by (yes l) = short-does s k a d l
-      by (no g) = long (plainOr (s .offset) (s .limit) true false) refl (omega arith)
+      by : Dec (s .len ≤ 1)
+          → Simulates ns (λ t u. SideIn t s a) (λ t u. each (lookUp t) (keyOf (sideDef t (s .side) a d)) u) m m
+      by (yes l) = short-looks s a d l
+      by (no g) = long (plainOr (s .side .offset) (s .side .limit) true false) refl (omega arith)
 
 -- ---- a clause
 
@@ -94,12 +112,12 @@ both-true : (a b : Bool) → (a && b) ≡ true → (a ≡ true) × (b ≡ true)
 both-true true b h = (refl, h)
 both-true false b h = true-false h refl
 
-pub does-stored : {ls os : List ℕ} {x : Join} {v i j : ℕ} {b : Bool} (m : Memory) → clauseStored (m .firsts) x v i j ≡ true
-    → Does ls os (λ t. ClauseIn t x v i j b) (λ t u. each (lookUp t) (looksOf t (clauseOf t x v i j b)) u) m m
+pub sims-stored : {ns : List ℕ} {x : Join} {v i j : ℕ} {b : Bool} (m : Memory) → clauseStored (m .store) x v i j ≡ true
+    → Simulates ns (λ t u. ClauseIn t x v i j b) (λ t u. each (lookUp t) (looksOf t (clauseOf t x v i j b)) u) m m
 unfolding clauseStored slot
-does-stored {x = x} {v} {i} {j} {b} m h =
-    let all = both-true (hasFirst (m .firsts) (68 * x .node + v) && sideStored (m .firsts) (x .left) (x .«left_len») i) _ h in
-    let first = both-true (hasFirst (m .firsts) (68 * x .node + v)) _ (all .0) in
-    does-looks (stored-side (x .left) (x .«left_len») i (direction (not b)) m (first .1))
-    (stored-side (x .right) (x .«right_len») j (direction (not b)) m (all .1))
-    (stored-does (real (x .node) v) m (λ t l q. real-named l q) (first .0))
+sims-stored {x = x} {v} {i} {j} {b} m h =
+    let all = both-true (hasFirst (m .store) (storeAt (x .node) + v) && sideStored (m .store) (x .left) i) _ h in
+    let first = both-true (hasFirst (m .store) (storeAt (x .node) + v)) _ (all .0) in
+    sims-looks (sims-stored-side (x .left) i (direction (not b)) m (first .1))
+    (sims-stored-side (x .right) j (direction (not b)) m (all .1))
+    (sims-stored-key (real (x .node) v) (storeAt (x .node) + v) m (λ t s l q. real-named (l .bounded) q) (λ t s l q. refl) (first .0))

@@ -1,81 +1,172 @@
--- A clause after its lookups: its two records, and what all of it does.
-use mathlib.Core.Path.{_≡_}
-use mathlib.Core.Bool.{Bool, false, not}
-use mathlib.Core.List.{List, [], _∷_, _++_, flatMap, append-nil}
-use Prim.Native.Nat.{ℕ}
-use Rattle.record.specs.Record.{numbers, derivation, clause}
-use Rattle.record.specs.Writing.{Buffer, Puts}
-use Rattle.record.proofs.Writing.{after}
-use Rattle.totdb.specs.Nodes.{Node}
-use Rattle.cert.specs.Definitions.{real, sideDef}
-use Rattle.cert.specs.Requests.{Clause, definition, keyOf, looksOf}
+-- A memory that represents a state, before and after a clause is written.
+use mathlib.Core.Path.{_≡_, refl, sym, ap, _∙_}
+use mathlib.Core.Bool.{Bool, not}
+use mathlib.Core.List.{List, [], _∷_, _++_, append-nil, flatMap}
+use Prim.Native.Nat.{ℕ, _+_, _≤_, _<_}
+use native.Mathlib.Omega.{arith}
+use lib.ListN.{length, length-append}
+use Rattle.sizes.specs.Sizes.{stepStop}
 use Rattle.memo.specs.Visit.{each}
 use Rattle.memo.proofs.Unrolled.{each-append}
-use Rattle.cert.specs.State.{State, stepIn, lookUp, write, writeClause}
+use Rattle.record.specs.Record.{Record, derivation, clause, numbers, steps, clauses}
+use Rattle.record.specs.Writing.{Buffer, buffer, Onward, Puts}
+use Rattle.record.proofs.Bytes.{length-bytes}
+use Rattle.totdb.specs.Nodes.{Node}
+use Rattle.cert.specs.Definitions.{real, sideDef}
+use Rattle.cert.specs.Requests.{Clause, clauseTokens, definition, keyOf, looksOf}
+use Rattle.cert.specs.State.{State, keys, stepIn, lookUp, write, writeClause}
+use Rattle.cert.proofs.Counts.{steps-append}
 use Rattle.cert.proofs.Keyed.{real-key}
-use Rattle.derivation.specs.Operands.{operand, part, stepTokens}
-use Rattle.derivation.specs.declared.Part.{Part}
+use Rattle.cert.proofs.Serving.{clauses-append}
+use Rattle.derivation.specs.Operands.{operand, part, stepTokens, clauseNumbers, nextStep}
 use Rattle.derivation.specs.declared.SemDefinition.{SemDefinition}
 use Rattle.derivation.proofs.ClauseRecords.{clause-step}
-use Rattle.define.specs.Tables.{Lists, Memory, Exact, Does, SideIn, RealOf, direction}
-use Rattle.define.proofs.Does.{does-then, does-under, does-same}
-use Rattle.clauses.specs.declared.Join.{Join}
-use Rattle.clauses.specs.Firsts.{SideRead}
+use Rattle.rows.specs.Rows.{Table}
+use Rattle.rows.specs.declared.Join.{Join}
+use Rattle.define.specs.Store.{direction}
+use Rattle.define.specs.Represents.{Memory, Exact, Represents, exact, over, Simulates}
+use Rattle.define.specs.Lookups.{RealOf, SideIn}
+use Rattle.define.proofs.Defines.{few-steps, step-after}
+use Rattle.define.proofs.Simulates.{Grows, grown, sims-open, sims-then, sims-under, sims-same}
+use Rattle.define.proofs.Written.{Took, fits, past, took}
+use Rattle.clauses.specs.Firsts.{FirstsOf, SideRead}
 use Rattle.clauses.specs.Joins.{ClauseIn, clauseOf}
-use Rattle.clauses.proofs.Standing.{clauseRecords, firsts-of}
 use Rattle.clauses.proofs.Joins.{left-in, right-in, this-in}
+
+-- ---- an exact memory
+
+module _ {c : ℕ} {t : List Node} {m : Memory} {s : State} (x : Exact c t m s) where
+  low-step : s .next-step < stepStop
+  low-step = omega (arith, few-steps x, x .consistent .few)
+
+  low-clauses : length (clauses (s .log)) < stepStop
+  low-clauses = omega (arith, few-steps x, x .consistent .few-clauses)
+
+  pub firsts-of : FirstsOf t (m .store) (s .stored)
+  firsts-of = record { firsts = x .stores .firsts; few = λ k. omega (arith, x .consistent .from-few k, low-step) }
+
+-- ---- a clause and its step
+
+-- The two records of a clause.
+abbrev pub clauseRecords : List Node → Clause → State → List Record
+clauseRecords t k s = derivation (clauseTokens (stepIn (s .stored)) t k) ∷ clause (s .next-step) (k .literals) ∷ []
+
+-- The memory after a clause: two records in the log, one step and one clause more.
+pub record Clausal (m n : Memory) (t : List Node) (k : Clause) (s : State) : Type 0 where
+  pub store : n .store ≡ m .store
+  pub log : Puts (buffer (m .log) (m .out .at)) (flatMap numbers (clauseRecords t k s)) (buffer (n .log) (n .out .at))
+  pub marks : n .out .marks ≡ m .out .marks
+  pub step : n .out .step ≡ nextStep (m .out .step)
+  pub clauses : n .out .clauses ≡ nextStep (m .out .clauses)
+
+module _ (c : ℕ) (t : List Node) (k : Clause) (s : State) where
+  exact-write : (m n : Memory) → Exact c t m s → Clausal m n t k s → Represents c t n (write t k s)
+  unfolding write steps clauses keys
+  exact-write m n x w = by (took (s .log) (clauseRecords t k s) (x .logged .size) (x .logged .is) (w .log))
+    where
+      size : length (n .log) ≡ c
+      size = w .log .onward .size ∙ x .logged .size
+
+      more-steps : steps (s .log ++ clauseRecords t k s) ≡ steps (s .log) + 1
+      more-steps = steps-append (s .log) (clauseRecords t k s)
+
+      more-clauses : length (clauses (s .log ++ clauseRecords t k s)) ≡ length (clauses (s .log)) + 1
+      more-clauses = rw (clauses-append (s .log) (clauseRecords t k s)) (length-append (clauses (s .log)) (clauses (clauseRecords t k s)))
+
+      by : Took c (s .log) (clauseRecords t k s) (buffer (n .log) (n .out .at)) → Represents c t n (write t k s)
+      by (past h more) = over (record { size = size; past = h; room = rw (w .store) (x .stores .room); more = more })
+      by (fits e) =
+          let y = x .consistent in
+          exact (record {
+            small = x .small;
+            logged = record {
+              size = size;
+              is = e;
+              step = w .step ∙ ap nextStep (x .logged .step) ∙ step-after (s .next-step) 1 (low-step x);
+              clauses = w .clauses ∙ ap nextStep (x .logged .clauses) ∙ step-after (length (clauses (s .log))) 1 (low-clauses x) ∙ sym more-clauses;
+            };
+            stores = record {
+              room = rw (w .store) (x .stores .room);
+              firsts = rw (w .store) (x .stores .firsts);
+              trail = rw (w .store, w .marks) (x .stores .trail);
+              holds = rw (w .store) (x .stores .holds);
+              blank = rw (w .store) (x .stores .blank);
+            };
+            consistent = record {
+              one = omega (arith, y .one);
+              used = y .used;
+              entry = y .entry;
+              from-one = y .from-one;
+              from-few = λ j. omega (arith, y .from-few j);
+              few = omega (arith, y .few, more-steps);
+              few-clauses = omega (arith, y .few-clauses, more-steps, more-clauses);
+              few-stored = omega (arith, y .few-stored, length-bytes (s .log) (clauseRecords t k s));
+            };
+          })
+
+-- A clause is written, or skipped where the log is too short.
+pub write-grows : (k : List Node → Clause) → Grows (λ t s. write t (k t) s)
+unfolding write
+write-grows k t s = grown s (write t (k t) s) (clauseRecords t (k t) s) refl
+
+pub sims-write : {ns : List ℕ} {P : List Node → State → Type 0} {m n : Memory} (k : List Node → Clause) → m .out .at ≤ length (m .log)
+    → Onward (buffer (m .log) (m .out .at)) (buffer (n .log) (n .out .at))
+    → ((c : ℕ) (t : List Node) (s : State) → Table ns t → P t s → Exact c t m s → Clausal m n t (k t) s)
+    → Simulates ns P (λ t s. write t (k t) s) m n
+sims-write {m = m} {n = n} k h on w = sims-open h on (λ c t s l p x. exact-write c t (k t) s m n x (w c t s l p x))
 
 -- ---- the records of a clause
 
-pub clause-puts : {b c d : Buffer} (t : List Node) (k : Clause) (u : State) (this left right : SemDefinition) (p q : Part) (o step : ℕ)
+pub three-parts : {a b p q : List ℕ} {l o : ℕ} → p ≡ a → q ≡ b → o ≡ l → p ++ q ++ (o ∷ []) ≡ a ++ b ++ (l ∷ [])
+three-parts e f g = rw (e, f, g)
+
+pub clause-puts : {b d : Buffer} (t : List Node) (k : Clause) (u : State) (this left right : SemDefinition) (c : Rattle.derivation.specs.declared.Clause.Clause)
     → this ≡ operand (stepIn (u .stored)) (definition t (k .this)) → left ≡ operand (stepIn (u .stored)) (definition t (k .left))
     → right ≡ operand (stepIn (u .stored)) (definition t (k .right))
-    → part p ++ part q ++ (o ∷ []) ≡ k .literals → step ≡ u .next-step
-    → Puts b (numbers (derivation (stepTokens this left right))) c → Puts c (numbers (clause step (part p ++ part q ++ (o ∷ [])))) d
+    → part (c .left) ++ part (c .right) ++ (c .output ∷ []) ≡ k .literals
+    → c .step ≡ u .next-step
+    → Puts b (numbers (derivation (stepTokens this left right)) ++ clauseNumbers c) d
     → Puts b (flatMap numbers (clauseRecords t k u)) d
-unfolding flatMap
-clause-puts t k u this left right p q o step et el er ek es x y =
-    rw (append-nil (numbers (clause (u .next-step) (k .literals))), ← clause-step (stepIn (u .stored)) t k, ← et, ← el, ← er, ← ek, ← es) (after x y)
+unfolding flatMap clauseNumbers
+clause-puts t k u this left right c et el er ek es x =
+    rw (append-nil (numbers (clause (u .next-step) (k .literals))), ← clause-step (stepIn (u .stored)) t k, ← et, ← el, ← er, ← ek, ← es) x
 
 -- ---- a clause after its lookups
 
 looks-is : (x : Join) (v i j : ℕ) (b : Bool) (t : List Node) (s : State)
     → lookUp t (real (x .node) v)
-    (each (lookUp t) (keyOf (sideDef t (x .right) j (direction (not b)))) (each (lookUp t) (keyOf (sideDef t (x .left) i (direction (not b)))) s))
+    (each (lookUp t) (keyOf (sideDef t (x .right .side) j (direction (not b))))
+    (each (lookUp t) (keyOf (sideDef t (x .left .side) i (direction (not b)))) s))
     ≡ each (lookUp t) (looksOf t (clauseOf t x v i j b)) s
 unfolding looksOf definition clauseOf each flatMap
 looks-is x v i j b t s =
-    let left = keyOf (sideDef t (x .left) i (direction (not b))) in
-    let right = keyOf (sideDef t (x .right) j (direction (not b))) in
+    let left = keyOf (sideDef t (x .left .side) i (direction (not b))) in
+    let right = keyOf (sideDef t (x .right .side) j (direction (not b))) in
     let this = real (x .node) v ∷ [] in
     rw (real-key (x .node) v (direction b), each-append (lookUp t) left (right ++ this) s, each-append (lookUp t) right this (each (lookUp t) left s))
 
 module _ {x : Join} {v i j : ℕ} {b : Bool} where
-  pub does-looks : {ls os : List ℕ} {m n p q : Memory}
-      → Does ls os (λ t. SideIn t (x .left) (x .«left_len») i)
-      (λ t u. each (lookUp t) (keyOf (sideDef t (x .left) i (direction (not b)))) u) m n
-      → Does ls os (λ t. SideIn t (x .right) (x .«right_len») j)
-      (λ t u. each (lookUp t) (keyOf (sideDef t (x .right) j (direction (not b)))) u) n p
-      → Does ls os (λ t. RealOf t (x .node) (x .len) v) (λ t u. lookUp t (real (x .node) v) u) p q
-      → Does ls os (λ t. ClauseIn t x v i j b) (λ t u. each (lookUp t) (looksOf t (clauseOf t x v i j b)) u) m q
-  does-looks d e f =
-      does-same (λ t s l k. looks-is x v i j b t s)
-      (does-then (does-under (λ t l k. left-in k) d)
-      (does-then (does-under (λ t l k. right-in k) e) (does-under (λ t l k. this-in k) f)))
+  pub sims-looks : {ns : List ℕ} {m n p q : Memory}
+      → Simulates ns (λ t u. SideIn t (x .left) i) (λ t u. each (lookUp t) (keyOf (sideDef t (x .left .side) i (direction (not b)))) u) m n
+      → Simulates ns (λ t u. SideIn t (x .right) j) (λ t u. each (lookUp t) (keyOf (sideDef t (x .right .side) j (direction (not b)))) u) n p
+      → Simulates ns (λ t u. RealOf t (x .node) v) (λ t u. lookUp t (real (x .node) v) u) p q
+      → Simulates ns (λ t u. ClauseIn t x v i j b) (λ t u. each (lookUp t) (looksOf t (clauseOf t x v i j b)) u) m q
+  sims-looks d e f =
+      sims-same (λ t s l k. looks-is x v i j b t s)
+      (sims-then (sims-under (λ t s l k. left-in k) d)
+      (sims-then (sims-under (λ t s l k. right-in k) e) (sims-under (λ t s l k. this-in k (l .bounded)) f)))
 
-  -- What is read of the sides, of a memory that is not full.
-  module _ {ls os : List ℕ} {m : Memory} (clear : m .out .cursor .full ≡ false) where
-    pub left-read : {c : ℕ} {t : List Node} {s : State} → Lists ls os t → ClauseIn t x v i j b → Exact c t m s
-        → SideRead ls os (m .firsts) t (s .stored) (x .left) (x .«left_len») i
-    left-read l k e = record { lists = l; side = left-in k; firsts-of = firsts-of clear e }
+  -- What is read of the sides, of an exact memory.
+  module _ {c : ℕ} {ns : List ℕ} {m : Memory} {t : List Node} {s : State} (l : Table ns t) (k : ClauseIn t x v i j b) (e : Exact c t m s) where
+    pub left-read : SideRead (m .store) t (s .stored) (x .left) i
+    left-read = record { bounded = l .bounded; side = left-in k; room = e .stores .room; firsts-of = firsts-of e }
 
-    pub right-read : {c : ℕ} {t : List Node} {s : State} → Lists ls os t → ClauseIn t x v i j b → Exact c t m s
-        → SideRead ls os (m .firsts) t (s .stored) (x .right) (x .«right_len») j
-    right-read l k e = record { lists = l; side = right-in k; firsts-of = firsts-of clear e }
+    pub right-read : SideRead (m .store) t (s .stored) (x .right) j
+    right-read = record { bounded = l .bounded; side = right-in k; room = e .stores .room; firsts-of = firsts-of e }
 
-  pub does-clause : {ls os : List ℕ} {m q r : Memory}
-      → Does ls os (λ t. ClauseIn t x v i j b) (λ t u. each (lookUp t) (looksOf t (clauseOf t x v i j b)) u) m q
-      → Does ls os (λ t. ClauseIn t x v i j b) (λ t u. write t (clauseOf t x v i j b) u) q r
-      → Does ls os (λ t. ClauseIn t x v i j b) (λ t u. writeClause t (clauseOf t x v i j b) u) m r
+  pub sims-clause : {ns : List ℕ} {m q r : Memory}
+      → Simulates ns (λ t u. ClauseIn t x v i j b) (λ t u. each (lookUp t) (looksOf t (clauseOf t x v i j b)) u) m q
+      → Simulates ns (λ t u. ClauseIn t x v i j b) (λ t u. write t (clauseOf t x v i j b) u) q r
+      → Simulates ns (λ t u. ClauseIn t x v i j b) (λ t u. writeClause t (clauseOf t x v i j b) u) m r
   unfolding writeClause
-  does-clause d e = does-then d e
+  sims-clause d e = sims-then d e

@@ -1,30 +1,24 @@
--- A join as the code has it: by value, with its sides and the lengths of the three nodes; and a clause of it.
+-- A join as the code has it, by value, and a clause of it.
 use mathlib.Core.Path.{_≡_}
 use mathlib.Core.Bool.{Bool, true, false, not}
 use mathlib.Core.List.{List, [], _∷_, _++_}
-use Prim.Native.Nat.{ℕ, _+_, _-_, _*_, _^_, _≤_, _<_}
-use lib.ListN.{length, getD}
+use Prim.Native.Nat.{ℕ, _+_, _-_, _^_, _≤_, _<_}
+use lib.ListN.{length}
+use Rattle.sizes.specs.Sizes.{mostNodes, width, storeAt}
 use Rattle.pb.specs.Sum.{neg}
-use Rattle.totdb.specs.Nodes.{Node, join, at, len, output, sideLen, lengthOver}
+use Rattle.totdb.specs.Nodes.{Node, at, len, output}
 use Rattle.totdb.specs.declared.Side.{Side}
 use Rattle.cert.specs.Requests.{Clause, of-side, of-node, negPart, posPart}
-use Rattle.define.specs.Tables.{direction}
-use Rattle.clauses.specs.declared.Join.{Join}
-
-pub record JoinOf (t : List Node) (x : Join) : Type 0 where
-  pub there : x .node < length t
-  pub leaf-list : List ℕ
-  pub variable : ℕ
-  pub is : at t (x .node) ≡ join leaf-list variable (x .left) (x .right)
-  pub own-len : x .len ≡ len (at t (x .node))
-  pub left-len : x .«left_len» ≡ len (at t (x .left .node))
-  pub right-len : x .«right_len» ≡ len (at t (x .right .node))
+use Rattle.rows.specs.Rows.{JoinOf}
+use Rattle.rows.specs.declared.Join.{Join}
+use Rattle.rows.specs.declared.Shown.{Shown}
+use Rattle.define.specs.Store.{direction}
 
 -- A join with a value of it.
 pub record JoinIn (t : List Node) (x : Join) (v : ℕ) : Type 0 where
   pub of : JoinOf t x
   pub above : 1 ≤ v
-  pub within : v ≤ x .len
+  pub within : v ≤ len (at t (x .node))
 
 -- ---- clauses. The flag is that of only-if clauses.
 
@@ -43,10 +37,10 @@ lastLiteral false o = o
 unfoldable pub clauseOf : List Node → Join → ℕ → ℕ → ℕ → Bool → Clause
 unfolding at output direction clausePart lastLiteral
 clauseOf t x v i j b = record {
-  left = of-side (x .left) i (direction (not b));
-  right = of-side (x .right) j (direction (not b));
+  left = of-side (x .left .side) i (direction (not b));
+  right = of-side (x .right .side) j (direction (not b));
   this = of-node (x .node) v (direction b);
-  literals = clausePart b t (x .left) i ++ clausePart b t (x .right) j ++ (lastLiteral b (output (at t (x .node)) v) ∷ []);
+  literals = clausePart b t (x .left .side) i ++ clausePart b t (x .right .side) j ++ (lastLiteral b (output (at t (x .node)) v) ∷ []);
 }
 
 -- The values that a clause has of a side of length p: in if clauses from 0, in only-if clauses from 1 to one above the length.
@@ -57,8 +51,8 @@ pub record Within (b : Bool) (p i : ℕ) : Type 0 where
 
 pub record ClauseIn (t : List Node) (x : Join) (v i j : ℕ) (b : Bool) : Type 0 where
   pub of : JoinIn t x v
-  pub left : Within b (sideLen t (x .left)) i
-  pub right : Within b (sideLen t (x .right)) j
+  pub left : Within b (x .left .len) i
+  pub right : Within b (x .right .len) j
 
 -- ---- the clauses of a value, by the split a of a sum over the two sides
 
@@ -72,20 +66,27 @@ leftValue a false = a
 
 -- ---- bounds, where the nodes are not lent
 
--- The a-th value of a side over a node of k values.
-pub record SideReach (os : List ℕ) (s : Side) (k a : ℕ) : Type 0 where
-  pub size : length os ≡ 20416
-  pub node : s .node < 319
-  pub first : getD os (64 * s .node) 0 ≤ 2 ^ 30
-  pub offset : s .offset ≤ 64
-  pub short : lengthOver s k ≤ 64
-  pub value : a ≤ lengthOver s k + 1
+-- The a-th value of a side.
+pub record SideReach (s : Shown) (a : ℕ) : Type 0 where
+  pub node : s .side .node < mostNodes
+  pub first : s .first ≤ 2 ^ 30
+  pub offset : s .side .offset ≤ width
+  pub short : s .len ≤ width
+  pub value : a ≤ s .len + 1
 
-pub record ClauseReach (os : List ℕ) (x : Join) (v i j : ℕ) (b : Bool) : Type 0 where
-  pub node : x .node < 319
+-- Its definitions have places in the store.
+pub record SideRoom (store : List ℕ) (s : Shown) (a : ℕ) : Type 0 where
+  pub reach : SideReach s a
+  pub row : storeAt (s .side .node) + 134 ≤ length store
+  pub window : s .window + 1 < length store
+
+pub record ClauseReach (store : List ℕ) (x : Join) (v i j : ℕ) (b : Bool) : Type 0 where
+  pub node : x .node < mostNodes
+  pub row : storeAt (x .node) + 134 ≤ length store
+  pub first : x .first ≤ 2 ^ 30
   pub above : 1 ≤ v
-  pub within : v ≤ 64
-  pub left : SideReach os (x .left) (x .«left_len») i
-  pub right : SideReach os (x .right) (x .«right_len») j
-  pub left-in : Within b (lengthOver (x .left) (x .«left_len»)) i
-  pub right-in : Within b (lengthOver (x .right) (x .«right_len»)) j
+  pub within : v ≤ width
+  pub left : SideRoom store (x .left) i
+  pub right : SideRoom store (x .right) j
+  pub left-in : Within b (x .left .len) i
+  pub right-in : Within b (x .right .len) j

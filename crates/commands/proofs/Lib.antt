@@ -1,7 +1,6 @@
--- Laws of commands over tables.
-pub mod Room
-pub mod Ends
+-- The questions in the order of the code, and what a command leaves behind.
 pub mod Questions
+pub mod Ends
 pub mod NodeMore
 pub mod Making
 pub mod Writes

@@ -1,21 +1,23 @@
--- A leaf or a join that is made, or a leaf that is there already: accepted, and the tables stand for the state after it.
+-- A leaf or a join that is made, or a leaf that is there already: accepted, and the tables represent the state after it.
 use mathlib.Core.Path.{_≡_, refl, sym, _∙_, ap, subst}
 use mathlib.Core.Bool.{true, false}
 use mathlib.Core.List.{List, [], _∷_, _++_}
 use Prim.Native.Nat.{ℕ, _+_, _≤_, _<_}
 use native.Mathlib.Omega.{arith}
 use lib.ListN.{length, length-append}
-use Rattle.totdb.specs.Nodes.{Node, leaf, joined, at, leaves, len, known, taken, leafCount, sideLen, sideLeaves}
+use Rattle.pb.specs.Sum.{variable}
+use Rattle.sizes.specs.Sizes.{mostLeaves}
+use Rattle.totdb.specs.Nodes.{Node, leaf, joined, at, leaves, len, known, leafCount, sideLen, sideLeaves}
 use Rattle.totdb.specs.declared.Side.{Side}
 use Rattle.cert.specs.State.{State, Head}
 use Rattle.cert.proofs.Tables.{at-last, length-snoc}
-use Rattle.define.specs.Tables.{Lists, memory}
+use Rattle.rows.specs.Rows.{Table}
+use Rattle.define.specs.Represents.{memory}
 use Rattle.define.specs.declared.Out.{Out}
-use Rattle.request.specs.Rows.{Rows}
-use Rattle.player.specs.Player.{firstNo, questions, act, make}
+use Rattle.nodes.specs.Added.{Leafable, Joinable}
+use Rattle.player.specs.Formed.{Formed}
+use Rattle.player.specs.Player.{firstNo, questions, act, make, accepted}
 use Rattle.player.specs.declared.Command.{Command}
-use Rattle.nodes.specs.Added.{Joinable}
-use Rattle.nodes.proofs.Sides.{SideIs, leaf-side, join-side}
 use Rattle.player.proofs.Formed.{formed-act, head-low}
 use Rattle.player.proofs.Sound.{JoinFits, join-fits, sideLeaves-length}
 use Rattle.player.proofs.Tree.{few-nodes, few-variables, leafCount-leaf, leafCount-join, treed-act}
@@ -26,123 +28,125 @@ use Rattle.commands.specs.declared.Totals.{Totals}
 use Rattle.commands.proofs.Ends.{fits}
 use Rattle.commands.proofs.NodeMore.{exact-make}
 
-module _ {h : Head} {c : ℕ} {ns ls os held firsts steps log : List ℕ} {z : Totals} {s : State}
-    (st : Standing h c ns ls os (memory held firsts steps log (z .out)) z s) where
-  few : length (s .nodes) < 319
-  few = omega (arith, few-nodes (st .formed .treed))
-
+module _ {h : Head} {c : ℕ} {ns store log : List ℕ} {z : Totals} {s : State} (st : Standing h c ns (memory store log (z .out)) z s) where
   -- A command that makes the node a.
-  module _ (k : Command) (asked : firstNo (questions h (s .nodes) k) ≡ 0) (a : Node) (i : ℕ) (is : act k s ≡ make a i s)
-      (free : (u : Side) → SideIs a u → (u .node < length (s .nodes)) × (taken (s .nodes) (u .node) ≡ false))
-      (ns′ ls′ os′ : List ℕ) (rows : Rows ns′ (s .nodes ++ (a ∷ []))) (lists : Lists ls′ os′ (s .nodes ++ (a ∷ []))) (e : Ended)
-      (number : e .number ≡ 0) (out : e .totals .out ≡ z .out) (nodes : e .totals .nodes ≡ length (s .nodes ++ (a ∷ [])))
+  module _ (k : Command) (asked : firstNo (questions h (s .nodes) k) ≡ 0) (a : Node) (i : ℕ) (is : act k s ≡ make a i s) (ns′ : List ℕ)
+      (size : length ns′ ≡ length ns) (table : Table ns′ (s .nodes ++ (a ∷ []))) (e : Ended) (number : e .number ≡ 0)
+      (out : e .totals .out ≡ z .out) (nodes : e .totals .nodes ≡ length (s .nodes ++ (a ∷ [])))
       (leaves : e .totals .leaves ≡ leafCount (s .nodes ++ (a ∷ []))) (next : e .totals .variable ≡ s .next-variable + i) where
-    after : Standing h c ns′ ls′ os′ (memory held firsts steps log (z .out)) (e .totals) (make a i s)
+    after : Standing h c ns′ (memory store log (z .out)) (e .totals) (make a i s)
+    unfolding make
     after = record {
-      formed = subst (λ (u : State). Rattle.player.specs.Formed.Formed h u) is (formed-act h k s asked (st .formed));
-      lists = unfold make in lists;
-      rows = unfold make in rows;
-      room = st .room;
+      formed = subst (λ (u : State). Formed h u) is (formed-act h k s asked (st .formed));
+      nodes-size = omega (arith, size, st .nodes-size);
+      store-size = st .store-size;
+      table = table;
       exact =
-          unfold make in
-          exact-make a i (st .lists) few (st .exact) (st .formed .counted .keys-in) free;
-      nodes = unfold make in nodes;
-      leaves = unfold make in leaves;
-      variable = unfold make in next;
+          exact-make (s .nodes) a (st .table .bounded) (table .bounded) i
+          (omega (arith, st .store-size, few-nodes (st .formed .treed))) (st .formed .held) (st .exact);
+      nodes = nodes;
+      leaves = leaves;
+      variable = next;
     }
 
     same-log : act k s .log ≡ s .log
     same-log = rw is (unfold make in refl)
 
-    pub makes : Played h c k s ns′ ls′ os′ held firsts steps log e
+    makes : Played h c k s ns′ store log e
     makes =
         went (act k s)
         (play-goes h c k s asked (rw same-log (fits st))) number
-        (subst (λ (o : Out). Standing h c ns′ ls′ os′ (memory held firsts steps log o) (e .totals) (act k s)) (sym out)
-        (subst (λ (u : State). Standing h c ns′ ls′ os′ (memory held firsts steps log (z .out)) (e .totals) u) (sym is) after))
+        (subst (λ (o : Out). Standing h c ns′ (memory store log o) (e .totals) (act k s)) (sym out)
+        (subst (λ (u : State). Standing h c ns′ (memory store log (z .out)) (e .totals) u) (sym is) after))
+
+  -- ---- a leaf
 
   -- A leaf that is there already.
   pub leaf-there : (l : ℕ) → firstNo (questions h (s .nodes) (Command.Leaf l)) ≡ 0 → known (s .nodes) l ≡ true → (e : Ended) → e .number ≡ 0
-      → e .totals ≡ z → Played h c (Command.Leaf l) s ns ls os held firsts steps log e
+      → e .totals ≡ z → Played h c (Command.Leaf l) s ns store log e
   leaf-there l asked there e a b =
       let same : act (Command.Leaf l) s ≡ s = unfold act in rw (there, act) in
       went s
-      (play-goes h c (Command.Leaf l) s asked (rw same (fits st)) ∙ ap Rattle.player.specs.Player.accepted same) a
+      (play-goes h c (Command.Leaf l) s asked (rw same (fits st)) ∙ ap accepted same) a
       (rw b st)
 
-  pub leaf-made : (l : ℕ) → firstNo (questions h (s .nodes) (Command.Leaf l)) ≡ 0 → known (s .nodes) l ≡ false → (ns′ ls′ os′ : List ℕ)
-      → Rows ns′ (s .nodes ++ (leaf l ∷ [])) → Lists ls′ os′ (s .nodes ++ (leaf l ∷ [])) → (e : Ended) → e .number ≡ 0 → e .totals .out ≡ z .out
+  pub leafable : (l : ℕ) → variable l < h .variable → z .leaves < mostLeaves → Leafable ns (s .nodes) (z .nodes) (z .leaves) l
+  unfolding variable
+  leafable l low few = record {
+    table = st .table;
+    next = sym (st .nodes);
+    leaves = sym (st .leaves);
+    few = few;
+    room = omega (arith, st .nodes, few-nodes (st .formed .treed));
+    low = omega (arith, low, head-low h (st .formed .head) .0);
+  }
+
+  pub leaf-made : (l : ℕ) → firstNo (questions h (s .nodes) (Command.Leaf l)) ≡ 0 → known (s .nodes) l ≡ false → (ns′ : List ℕ)
+      → length ns′ ≡ length ns → Table ns′ (s .nodes ++ (leaf l ∷ [])) → (e : Ended) → e .number ≡ 0 → e .totals .out ≡ z .out
       → e .totals .nodes ≡ z .nodes + 1 → e .totals .leaves ≡ z .leaves + 1 → e .totals .variable ≡ z .variable
-      → Played h c (Command.Leaf l) s ns′ ls′ os′ held firsts steps log e
-  leaf-made l asked new ns′ ls′ os′ rows lists e a b p q r =
-      makes (Command.Leaf l) asked (leaf l) 0 (unfold act in rw (new, act)) (λ u i. absurd (leaf-side i)) ns′ ls′ os′ rows lists e a b
+      → Played h c (Command.Leaf l) s ns′ store log e
+  leaf-made l asked new ns′ size table e a b p q r =
+      makes (Command.Leaf l) asked (leaf l) 0 (unfold act in rw (new, act)) ns′ size table e a b
       (omega (arith, p, st .nodes, length-snoc (s .nodes) (leaf l))) (omega (arith, q, st .leaves, leafCount-leaf (s .nodes) l))
       (omega (arith, r, st .variable))
 
-  pub join-made : (l r : Side) → firstNo (questions h (s .nodes) (Command.Join l r)) ≡ 0 → (ns′ ls′ os′ : List ℕ)
-      → Rows ns′ (s .nodes ++ (joined (s .nodes) (z .variable) l r ∷ [])) → Lists ls′ os′ (s .nodes ++ (joined (s .nodes) (z .variable) l r ∷ []))
+  -- ---- a join
+
+  pub join-made : (l r : Side) → firstNo (questions h (s .nodes) (Command.Join l r)) ≡ 0 → (ns′ : List ℕ) → length ns′ ≡ length ns
+      → Table ns′ (s .nodes ++ (joined (s .nodes) (z .variable) l r ∷ []))
       → (e : Ended) → e .number ≡ 0 → e .totals .out ≡ z .out → e .totals .nodes ≡ z .nodes + 1 → e .totals .leaves ≡ z .leaves
       → e .totals .variable ≡ z .variable + len (joined (s .nodes) (z .variable) l r)
-      → Played h c (Command.Join l r) s ns′ ls′ os′ held firsts steps log e
-  join-made l r asked ns′ ls′ os′ rows lists e a b p q v =
+      → Played h c (Command.Join l r) s ns′ store log e
+  join-made l r asked ns′ size table e a b p q v =
       let x : Node = joined (s .nodes) (z .variable) l r in
       let same : leafCount (s .nodes ++ (joined (s .nodes) (z .variable) l r ∷ [])) ≡ leafCount (s .nodes) =
       unfold joined in leafCount-join (s .nodes) (sideLeaves (s .nodes) l ++ sideLeaves (s .nodes) r) (z .variable) l r in
       let is : act (Command.Join l r) s ≡ make x (len x) s =
       unfold act in ap (λ (o : ℕ). make (joined (s .nodes) o l r) (len (joined (s .nodes) o l r)) s) (sym (st .variable)) in
-      makes (Command.Join l r) asked x (len x) is sides ns′ ls′ os′ rows lists e a b
+      makes (Command.Join l r) asked x (len x) is ns′ size table e a b
       (omega (arith, p, st .nodes, length-snoc (s .nodes) x))
       (omega (arith, q, st .leaves, same))
       (omega (arith, v, st .variable))
-    where
-      f : JoinFits (s .nodes) l r
-      f = join-fits h (s .nodes) l r asked
 
-      Free : Side → Type 0
-      Free d = (d .node < length (s .nodes)) × (taken (s .nodes) (d .node) ≡ false)
+  -- Two sides that pass their questions may be joined, and their join has 64 outputs at most.
+  module _ (l r : Side) (asked : firstNo (questions h (s .nodes) (Command.Join l r)) ≡ 0) where
+    fit : JoinFits (s .nodes) l r
+    fit = join-fits h (s .nodes) l r asked
 
-      sides : (u : Side) → SideIs (joined (s .nodes) (z .variable) l r) u → Free u
-      sides = unfold joined in join-side Free (f .left, f .left-free) (f .right, f .right-free)
+    long : (o : ℕ) → len (joined (s .nodes) o l r) ≡ sideLen (s .nodes) l + sideLen (s .nodes) r
+    unfolding len leaves joined
+    long o = length-append (sideLeaves (s .nodes) l) (sideLeaves (s .nodes) r) ∙ rw (sideLeaves-length (s .nodes) l, sideLeaves-length (s .nodes) r)
 
--- Two sides that pass their questions may be joined, and their join has 64 outputs at most.
-module _ {h : Head} {c : ℕ} {ns ls os held firsts steps log : List ℕ} {z : Totals} {s : State}
-    (st : Standing h c ns ls os (memory held firsts steps log (z .out)) z s) (l r : Side)
-    (asked : firstNo (questions h (s .nodes) (Command.Join l r)) ≡ 0) where
-  fit : JoinFits (s .nodes) l r
-  fit = join-fits h (s .nodes) l r asked
+    short : sideLen (s .nodes) l + sideLen (s .nodes) r ≤ 64
+    short =
+        let t = treed-act h (Command.Join l r) s asked (st .formed .sound) (st .formed .treed) in
+        let x : Node = joined (s .nodes) (s .next-variable) l r in
+        let e : act (Command.Join l r) s .nodes ≡ s .nodes ++ (joined (s .nodes) (s .next-variable) l r ∷ []) = unfold act make in refl in
+        let k : len (at (s .nodes ++ (x ∷ [])) (length (s .nodes))) ≤ 64 =
+        subst (λ (y : List Node). (n : ℕ) → n < length y → len (at y n) ≤ 64) e (t .each) (length (s .nodes)) (omega (arith, length-snoc (s .nodes) x)) in
+        let j : len x ≤ 64 = subst (λ (y : Node). len y ≤ 64) (at-last (s .nodes) x) k in
+        omega (arith, long (s .next-variable))
 
-  long : (o : ℕ) → len (joined (s .nodes) o l r) ≡ sideLen (s .nodes) l + sideLen (s .nodes) r
-  unfolding len leaves joined
-  long o = length-append (sideLeaves (s .nodes) l) (sideLeaves (s .nodes) r) ∙ rw (sideLeaves-length (s .nodes) l, sideLeaves-length (s .nodes) r)
+    pub joined-short : (o : ℕ) → len (joined (s .nodes) o l r) ≤ 64
+    joined-short o = omega (arith, short, long o)
 
-  short : sideLen (s .nodes) l + sideLen (s .nodes) r ≤ 64
-  short =
-      let t = treed-act h (Command.Join l r) s asked (st .formed .sound) (st .formed .treed) in
-      let x : Node = joined (s .nodes) (s .next-variable) l r in
-      let e : act (Command.Join l r) s .nodes ≡ s .nodes ++ (joined (s .nodes) (s .next-variable) l r ∷ []) = unfold act make in refl in
-      let k : len (at (s .nodes ++ (x ∷ [])) (length (s .nodes))) ≤ 64 =
-      subst (λ (y : List Node). (n : ℕ) → n < length y → len (at y n) ≤ 64) e (t .each) (length (s .nodes)) (omega (arith, length-snoc (s .nodes) x)) in
-      let j : len x ≤ 64 = subst (λ (y : Node). len y ≤ 64) (at-last (s .nodes) x) k in
-      omega (arith, long (s .next-variable))
+    pub low-variable : z .variable ≤ 100000000
+    low-variable = omega (arith, st .variable, few-variables (st .formed .treed), head-low h (st .formed .head) .0)
 
-  pub joined-short : (o : ℕ) → len (joined (s .nodes) o l r) ≤ 64
-  joined-short o = omega (arith, short, long o)
-
-  pub joinable : Joinable ns ls os (s .nodes) (z .nodes) (z .variable) l r
-  joinable = record {
-    rows = st .rows;
-    lists = st .lists;
-    next = sym (st .nodes);
-    room = omega (arith, st .nodes, few-nodes (st .formed .treed));
-    left = fit .left;
-    right = fit .right;
-    apart = fit .apart;
-    left-free = fit .left-free;
-    right-free = fit .right-free;
-    left-some = fit .left-some;
-    right-some = fit .right-some;
-    left-in = fit .left-in;
-    right-in = fit .right-in;
-    short = short;
-    low = omega (arith, st .variable, few-variables (st .formed .treed), head-low h (st .formed .head));
-  }
+    pub joinable : Joinable ns (s .nodes) (z .nodes) (z .variable) l r
+    joinable = record {
+      table = st .table;
+      next = sym (st .nodes);
+      room = omega (arith, st .nodes, few-nodes (st .formed .treed));
+      left = fit .left;
+      right = fit .right;
+      apart = fit .apart;
+      left-free = fit .left-free;
+      right-free = fit .right-free;
+      left-some = fit .left-some;
+      right-some = fit .right-some;
+      left-in = fit .left-in;
+      right-in = fit .right-in;
+      short = short;
+      low = low-variable;
+    }

@@ -1,133 +1,160 @@
--- A node more: the tables of definitions and requests, and the log, stand for the state as before.
+-- A node more: the store and the log represent the state as before.
 use mathlib.Core.Path.{_≡_, refl, sym, _∙_, ap}
-use mathlib.Core.Bool.{false}
 use mathlib.Core.Logic.{_⊎_, inl, inr, ⊎-elim}
-use mathlib.Core.List.{List, [], _∷_, _++_, map, flatMap, List·Memᴰ, List·Memᴰ·head, List·Memᴰ·tail}
-use Prim.Native.Nat.{ℕ, _<_}
+use mathlib.Core.List.{List, [], _∷_, _++_, List·Memᴰ, Memᴰ·map}
+use Prim.Native.Nat.{ℕ, _+_, _≤_, _<_}
 use native.Mathlib.Omega.{arith}
 use lib.ListN.{length, getD}
-use Rattle.record.specs.Record.{steps}
-use Rattle.totdb.specs.Nodes.{Node, taken, sideLen, range}
+use Rattle.sizes.specs.Sizes.{storeAt, heldAt}
+use Rattle.memo.proofs.Lists.{map-agree}
+use Rattle.totdb.specs.Nodes.{Node, leaf, join, at}
 use Rattle.totdb.specs.declared.Side.{Side}
-use Rattle.cert.specs.Counted.{KeyIn}
-use Rattle.cert.specs.Definitions.{Key, real, window-zero, window, keyRecords}
-use Rattle.cert.specs.State.{Stored, State, keys, fromIn, storedSteps}
-use Rattle.cert.proofs.Counts.{key-count, defined-more}
+use Rattle.cert.specs.Definitions.{Key, real, window-zero, window, Direction, if, only-if}
+use Rattle.cert.specs.Requests.{request, Right}
+use Rattle.cert.specs.State.{Stored, State, keys, fromIn}
 use Rattle.cert.proofs.Rules.{at-more, sideLen-more}
-use Rattle.cert.proofs.Tables.{length-snoc}
-use Rattle.define.specs.Tables.{Lists, Memory, Exact, SideOf, left-of, right-of, WindowOf, Used, slot}
+use Rattle.cert.proofs.Tables.{length-snoc, old-or-new}
+use Rattle.rows.specs.Windows.{SideAt, windowAt}
+use Rattle.rows.specs.Rows.{Bounded}
+use Rattle.rows.proofs.Sides.{side-inside}
+use Rattle.rows.proofs.Growing.{SidesOf, side-more, side-cases}
+use Rattle.define.specs.Store.{WindowOf, Used, slot, heldOf, IsJoin}
+use Rattle.define.specs.Represents.{Memory, Exact}
 use Rattle.define.proofs.Entries.{from-missing}
-use Rattle.define.proofs.Slots.{side-inside}
-use Rattle.nodes.proofs.Sides.{SideIs, side-split, apart}
+use Rattle.define.proofs.Slots.{window-slot, slot-inside}
+use Rattle.request.proofs.Flags.{flag-out}
+use Rattle.player.specs.Formed.{Held}
 use Rattle.player.specs.Player.{make}
 
--- ---- what is stored
+module _ (t : List Node) (a : Node) (b : Bounded t) (b′ : Bounded (t ++ (a ∷ []))) where
+  -- ---- keys that had a place
 
-steps-more : (t u : List Node) (k : Key) → KeyIn t k → steps (keyRecords (λ k i. 0) t k) ≡ steps (keyRecords (λ k i. 0) (t ++ u) k)
-steps-more t u k i =
-    key-count (λ k i. 0) t k ∙ ap (λ l. length l) (defined-more t u k i) ∙ sym (key-count (λ k i. 0) (t ++ u) k)
-
-stored-more : (t u : List Node) (es : List Stored) → ((k : Key) → List·Memᴰ k (map {B = Key} (λ (e : Stored). e .key) es) → KeyIn t k)
-    → storedSteps t es ≡ storedSteps (t ++ u) es
-unfolding storedSteps flatMap
-stored-more t u [] h = refl
-stored-more t u (e ∷ es) h =
-    rw (steps-more t u (e .key) (h (e .key) (List·Memᴰ·head refl)))
-    (ap (λ (l : List ℕ). range (e .from) (steps (keyRecords (λ k i. 0) (t ++ u) (e .key))) ++ l) (stored-more t u es (λ k m. h k (List·Memᴰ·tail m))))
-
--- ---- sides
-
-module _ {ls os : List ℕ} (t : List Node) (a : Node) (lists : Lists ls os t) where
-  side-more : (s : Side) → SideOf t s → SideOf (t ++ (a ∷ [])) s
-  side-more s (left-of n ls o r h e) =
-      left-of n ls o r (omega (arith, length-snoc t a)) (sym (at-more t (a ∷ []) n h) ∙ e)
-  side-more s (right-of n ls o l h e) =
-      right-of n ls o l (omega (arith, length-snoc t a)) (sym (at-more t (a ∷ []) n h) ∙ e)
-
-  side-same : (s : Side) → SideOf t s → sideLen t s ≡ sideLen (t ++ (a ∷ [])) s
-  side-same s o = sideLen-more t (a ∷ []) s (side-inside lists s o .0)
-
-  window-more : (n f m : ℕ) → WindowOf t n f m → WindowOf (t ++ (a ∷ [])) n f m
-  window-more n f m w = record {
+  window-more : {n f m : ℕ} → WindowOf t n f m → WindowOf (t ++ (a ∷ [])) n f m
+  window-more w = record {
+    place = w .place;
+    slot = w .slot;
     side = w .side;
-    of = side-more (w .side) (w .of);
+    of = side-more t a (w .of);
     node = w .node;
     offset = w .offset;
-    outputs = sym (side-same (w .side) (w .of)) ∙ w .outputs;
+    outputs = sym (sideLen-more t (a ∷ []) (w .side) (side-inside b (w .of) .0)) ∙ w .outputs;
     long = w .long;
   }
 
   used-more : (k : Key) → Used t k → Used (t ++ (a ∷ [])) k
   unfolding Used
-  used-more (real n v) u = u
-  used-more (window-zero n f m) u = window-more n f m u
-  used-more (window n f m) u = window-more n f m u
+  used-more (real n v) u = (omega (arith, length-snoc t a, u .0), rw (← at-more t (a ∷ []) n (u .0)) (u .1), rw (← at-more t (a ∷ []) n (u .0)) (u .2))
+  used-more (window-zero n f m) u = window-more u
+  used-more (window n f m) u = window-more u
 
-  -- A window that is shown now was shown before, or a side of the new node shows it.
-  window-split : (n f m : ℕ) → WindowOf (t ++ (a ∷ [])) n f m → WindowOf t n f m ⊎ ((s : Side) × SideIs a s × (s .node ≡ n))
-  window-split n f m w = ⊎-elim old (λ i. inr (w .side, i, w .node)) (side-split t a (w .side) (w .of))
+  window-same : {n f m : ℕ} (w : WindowOf t n f m) → windowAt t n f m ≡ windowAt (t ++ (a ∷ [])) n f m
+  unfolding window-more
+  window-same w = window-slot b w ∙ sym (window-slot b′ (window-more w))
+
+  slot-same : (k : Key) → Used t k → slot t k ≡ slot (t ++ (a ∷ [])) k
+  unfolding Used slot
+  slot-same (real n v) u = refl
+  slot-same (window-zero n f m) u = window-same u
+  slot-same (window n f m) u = ap (λ (p : ℕ). p + 1) (window-same u)
+
+  -- ---- the others
+
+  -- A key that has its place in the new row had none.
+  record New (k : Key) : Type 0 where
+    pub high : storeAt (length t) ≤ slot (t ++ (a ∷ [])) k
+    pub none : Used t k → ⊥
+
+  -- What was used had a place below.
+  new-key : (k : Key) → storeAt (length t) ≤ slot (t ++ (a ∷ [])) k → New k
+  new-key k h = record { high = h; none = λ u. omega (arith, h, slot-same k u, slot-inside b k u .1) }
+
+  abbrev Before : ℕ → ℕ → Side → Type 0
+  Before p w s = SideAt t p w s ⊎ (storeAt (length t) ≤ w)
+
+  side-split : {p w : ℕ} {s : Side} → SideAt (t ++ (a ∷ [])) p w s → Before p w s
+  unfolding SidesOf
+  side-split {p} {w} {s} i = side-cases t a Before (λ p w s j. inl j) (new a) p w s i
     where
-      old : SideOf t (w .side) → WindowOf t n f m ⊎ ((s : Side) × SideIs a s × (s .node ≡ n))
-      old o = inl (record {
+      new : (x : Node) → SidesOf Before (length t) x
+      new (leaf l) = tt
+      new (join m o l r) = (inr (omega arith), inr (omega arith))
+
+  window-split : {n f m : ℕ} (w : WindowOf (t ++ (a ∷ [])) n f m) → WindowOf t n f m ⊎ (storeAt (length t) ≤ w .slot)
+  window-split w =
+      ⊎-elim (λ o. inl (record {
+        place = w .place;
+        slot = w .slot;
         side = w .side;
         of = o;
         node = w .node;
         offset = w .offset;
-        outputs = side-same (w .side) o ∙ w .outputs;
+        outputs = sideLen-more t (a ∷ []) (w .side) (side-inside b o .0) ∙ w .outputs;
         long = w .long;
-      })
+      })) (λ h. inr h) (side-split (w .of))
 
--- The new node's sides, if it has some, are at nodes that stood under no join.
-module _ {c : ℕ} {ls os : List ℕ} {t : List Node} (a : Node) (i : ℕ) {m : Memory} {s : State} (lists : Lists ls os t) (few : length t < 319) (x : Exact c t m s)
-    (keys-in : (k : Key) → List·Memᴰ k (keys s) → KeyIn t k) (free : (u : Side) → SideIs a u → (u .node < length t) × (taken t (u .node) ≡ false)) where
-  unshown : (u : Side) → SideIs a u → (v : Side) → SideOf t v → v .node ≡ u .node → ⊥
-  unshown u i v j e = apart t a (λ p k. free p k .1) u v i j e
+  used-split : (k : Key) → Used (t ++ (a ∷ [])) k → Used t k ⊎ New k
+  unfolding Used slot
+  used-split (real n v) u =
+      ⊎-elim (λ i. inl (i .0, rw (at-more t (a ∷ []) n (i .0)) (u .1), rw (at-more t (a ∷ []) n (i .0)) (u .2)))
+      (λ i. inr (new-key (real n v) (omega (arith, i .0)))) (old-or-new t a n (at (t ++ (a ∷ [])) n) (u .0) refl)
+  used-split (window-zero n f m) u =
+      ⊎-elim (λ w. inl w) (λ h. inr (new-key (window-zero n f m) (omega (arith, window-slot b′ u)))) (window-split u)
+  used-split (window n f m) u =
+      ⊎-elim (λ w. inl w) (λ h. inr (new-key (window n f m) (omega (arith, window-slot b′ u)))) (window-split u)
 
-  same-steps : storedSteps t (s .stored) ≡ storedSteps (t ++ (a ∷ [])) (s .stored)
-  same-steps = stored-more t (a ∷ []) (s .stored) (λ k j. keys-in k (unfold keys in j))
+  -- ---- the memory
 
-  -- What no side showed is not stored.
-  unstored : (k : Key) → (Used t k → ⊥) → fromIn (s .stored) k ≡ 0
-  unstored k n = from-missing (s .stored) k (λ j. n (x .used k (unfold keys in j)))
+  module _ {c : ℕ} (i : ℕ) {m : Memory} {s : State} (room : storeAt (length t + 1) ≤ length (m .store)) (held : Held t s) (x : Exact c t m s) where
+    stored-used : (e : Stored) → List·Memᴰ e (s .stored) → Used t (e .key)
+    stored-used e j = x .consistent .used (e .key) (unfold keys in Memᴰ·map (λ (e : Stored). e .key) j)
 
-  first-more : (k : Key) → Used (t ++ (a ∷ [])) k → getD (m .firsts) (slot k) 0 ≡ fromIn (s .stored) k
-  unfolding slot Used
-  first-more (real n v) u = x .firsts (real n v) u
-  first-more (window-zero n f l) u =
-      ⊎-elim (λ w. x .firsts (window-zero n f l) w) new (window-split t a lists n f l u)
-    where
-      new : ((p : Side) × SideIs a p × (p .node ≡ n)) → getD (m .firsts) (slot (window-zero n f l)) 0 ≡ fromIn (s .stored) (window-zero n f l)
-      new q =
-          x .unshown n (omega (arith, free (q .0) (q .1) .0, q .2)) (λ v o e. unshown (q .0) (q .1) v o (e ∙ sym (q .2))) .0
-          ∙ sym (unstored (window-zero n f l) (λ w. unshown (q .0) (q .1) (w .side) (w .of) (w .node ∙ sym (q .2))))
-  first-more (window n f l) u =
-      ⊎-elim (λ w. x .firsts (window n f l) w) new (window-split t a lists n f l u)
-    where
-      new : ((p : Side) × SideIs a p × (p .node ≡ n)) → getD (m .firsts) (slot (window n f l)) 0 ≡ fromIn (s .stored) (window n f l)
-      new q =
-          x .unshown n (omega (arith, free (q .0) (q .1) .0, q .2)) (λ v o e. unshown (q .0) (q .1) v o (e ∙ sym (q .2))) .1
-          ∙ sym (unstored (window n f l) (λ w. unshown (q .0) (q .1) (w .side) (w .of) (w .node ∙ sym (q .2))))
+    first-more : (k : Key) → Used (t ++ (a ∷ [])) k → getD (m .store) (slot (t ++ (a ∷ [])) k) 0 ≡ fromIn (s .stored) k
+    first-more k u = ⊎-elim old new (used-split k u)
+      where
+        old : Used t k → getD (m .store) (slot (t ++ (a ∷ [])) k) 0 ≡ fromIn (s .stored) k
+        old w = rw (← slot-same k w) (x .stores .firsts .is k w)
 
-  pub exact-make : Exact c (t ++ (a ∷ [])) m (make a i s)
-  unfolding make keys
-  exact-make = record {
-    small = x .small;
-    held-size = x .held-size;
-    firsts-size = x .firsts-size;
-    steps-size = x .steps-size;
-    log = x .log;
-    step = x .step;
-    clauses = x .clauses;
-    stored = x .stored ∙ ap (λ (l : List ℕ). length l) same-steps;
-    steps = x .steps ∙ same-steps;
-    firsts = first-more;
-    unshown = λ n l h. x .unshown n l (λ u o e. h u (side-more t a lists u o) e);
-    held = x .held;
-    one = x .one;
-    used = λ k j. used-more t a lists k (x .used k j);
-    from-one = x .from-one;
-    from-few = x .from-few;
-    few = x .few;
-    few-clauses = x .few-clauses;
-    few-stored = omega (arith, x .few-stored, ap (λ (l : List ℕ). length l) same-steps);
-  }
+        new : New k → getD (m .store) (slot (t ++ (a ∷ [])) k) 0 ≡ fromIn (s .stored) k
+        new w =
+            x .stores .blank .is (slot (t ++ (a ∷ [])) k) (w .high)
+            ∙ sym (from-missing (s .stored) k (λ j. w .none (x .consistent .used k (unfold keys in j))))
+
+    not-held : (v : ℕ) (d : Direction) → ¬ List·Memᴰ (request (length t) v d) (s .held)
+    unfolding Right
+    not-held v d j = omega (arith, held (request (length t) v d) j .0)
+
+    held-more : (n v : ℕ) → n < length (t ++ (a ∷ [])) → IsJoin (at (t ++ (a ∷ [])) n) → 1 ≤ v → v ≤ 64
+        → getD (m .store) (heldAt n v) 0 ≡ heldOf (s .held) n v
+    unfolding heldOf
+    held-more n v h j p q =
+        ⊎-elim (λ y. x .stores .holds .is n v (y .0) (rw (at-more t (a ∷ []) n (y .0)) j) p q)
+        (λ y. x .stores .blank .is (heldAt n v) (omega (arith, y .0))
+        ∙ rw (y .0, flag-out (s .held) (request (length t) v if) (not-held v if), flag-out (s .held) (request (length t) v only-if) (not-held v only-if)))
+        (old-or-new t a n (at (t ++ (a ∷ [])) n) h refl)
+
+    pub exact-make : Exact c (t ++ (a ∷ [])) m (make a i s)
+    unfolding make
+    exact-make = record {
+      small = x .small;
+      logged = record { size = x .logged .size; is = x .logged .is; step = x .logged .step; clauses = x .logged .clauses };
+      stores = record {
+        room = rw (length-snoc t a) room;
+        firsts = record { is = first-more };
+        trail = record {
+          count = x .stores .trail .count;
+          is = x .stores .trail .is ∙ map-agree (s .stored) (λ e j. slot-same (e .key) (stored-used e j));
+        };
+        holds = record { is = held-more };
+        blank = record { is = λ k h. x .stores .blank .is k (omega (arith, length-snoc t a)) };
+      };
+      consistent = record {
+        one = x .consistent .one;
+        used = λ k j. used-more k (x .consistent .used k (unfold keys in j));
+        entry = x .consistent .entry;
+        from-one = λ k j. x .consistent .from-one k (unfold keys in j);
+        from-few = x .consistent .from-few;
+        few = x .consistent .few;
+        few-clauses = x .consistent .few-clauses;
+        few-stored = x .consistent .few-stored;
+      };
+    }

@@ -2,16 +2,14 @@
 use mathlib.Core.Path.{_≡_, refl, sym, _∙_, ap}
 use mathlib.Core.Bool.{Bool, true, false}
 use mathlib.Core.List.{List}
-use Prim.Native.Nat.{ℕ, _-_, _*_, _≤_, _<_}
+use Prim.Native.Nat.{ℕ, _-_, _≤_, _<_}
 use native.Mathlib.Omega.{arith}
 use borrow.Author.Tests.{lt-ltb, le-ltb, le-leb, lt-leb, eq-eqb, ne-eqb}
-use lib.ListN.{length, getD}
+use lib.ListN.{length}
 use Rattle.pb.specs.Sum.{variable, neg}
 use Rattle.totdb.specs.Nodes.{Node, at, len, known, taken}
 use Rattle.totdb.specs.declared.Side.{Side}
 use Rattle.cert.specs.State.{Head}
-use Rattle.request.specs.Rows.{Rows}
-use Rattle.request.proofs.Table.{row-len}
 use Rattle.player.specs.Player.{firstNo, fitsOver, questions, sideFits}
 use Rattle.player.specs.declared.Command.{Command}
 use Rattle.player.proofs.Lengths.{Free, asked-ten, value-zero}
@@ -113,10 +111,9 @@ module _ (s : Side) (n : ℕ) where
       pub fits-part : s .offset ≡ 0 → ¬ (s .limit ≡ n) → fitsOver s n ≡ true
       fits-part p q = rw (lt-ltb (s .offset) n below, le-leb (s .limit) (n - s .offset) within, eq-eqb (s .offset) 0 p, ne-eqb (s .limit) n q)
 
--- ---- a side of the table
+-- ---- a side of the nodes
 
-pub side-fits : (ns : List ℕ) (t : List Node) → Rows ns t → (s : Side) → s .node < length t → (b : Bool) → fitsOver s (getD ns (8 * s .node) 0) ≡ b
-    → sideFits t s ≡ b
-side-fits ns t r s h b e =
+pub side-fits : (t : List Node) (s : Side) (n : ℕ) → n ≡ len (at t (s .node)) → (b : Bool) → fitsOver s n ≡ b → sideFits t s ≡ b
+side-fits t s n p b e =
     let over : sideFits t s ≡ fitsOver s (len (at t (s .node))) = unfold sideFits in refl in
-    over ∙ ap (fitsOver s) (sym (row-len r (s .node) h)) ∙ e
+    over ∙ ap (fitsOver s) (sym p) ∙ e

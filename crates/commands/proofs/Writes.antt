@@ -1,25 +1,21 @@
--- The two commands that write: what a request and a close append, and what the tables stand for after a close.
+-- The two commands that write: a request, and a close.
 use mathlib.Core.Path.{_≡_, refl, sym, _∙_, ap}
-use mathlib.Core.Bool.{Bool, true, false}
-use mathlib.Core.List.{List, [], _∷_, _++_, flatMap, append-nil, append-assoc}
+use mathlib.Core.List.{List, [], _∷_, flatMap, append-nil, Memᴰ·map}
 use Prim.Native.Nat.{ℕ}
 use native.Mathlib.Omega.{arith}
-use lib.ListN.{length, take}
-use Rattle.record.specs.Record.{Record, derivation, clause, deletion, numbers, steps, clauses}
-use Rattle.record.specs.Writing.{buffer, Puts, puts, settled, filled}
-use Rattle.totdb.specs.Nodes.{Node}
-use Rattle.cert.specs.Definitions.{keyRecords}
-use Rattle.cert.specs.Requests.{clauseTokens}
-use Rattle.cert.specs.Sized.{Sized}
-use Rattle.cert.specs.State.{State, Head, stepIn, storedSteps, keys, define, write, hold, requests, serve}
+use lib.ListN.{length}
+use Rattle.record.specs.Record.{Record, deletion, numbers, steps, bytes, clauses}
+use Rattle.record.specs.Writing.{buffer, Puts}
+use Rattle.record.proofs.Bytes.{two-bytes, length-bytes}
+use Rattle.cert.specs.State.{State, Stored, Head, storedSteps, keys, requests, serve}
 use Rattle.cert.proofs.Apart.{sized-ok}
 use Rattle.cert.proofs.Counts.{steps-append}
-use Rattle.cert.proofs.Serving.{clauses-append, serve-in}
-use Rattle.define.specs.Tables.{memory, Exact, StandsFor, exact, over, Shown, Does}
+use Rattle.cert.proofs.Serving.{clauses-append}
+use Rattle.define.specs.Represents.{memory, Exact, Represents, exact, over, Represented, Simulates}
 use Rattle.define.specs.declared.Out.{Out}
-use Rattle.define.proofs.Does.{over-all}
-use Rattle.define.proofs.Written.{written-more}
-use Rattle.request.specs.Rows.{RequestIn, Tables}
+use Rattle.define.proofs.Written.{Took, fits, past, took}
+use Rattle.closing.specs.Closing.{Listed}
+use Rattle.request.specs.Asked.{RequestIn}
 use Rattle.player.specs.Player.{firstNo, questions, act, delete}
 use Rattle.player.specs.declared.Command.{Command}
 use Rattle.player.proofs.Sound.{RequestFits, request-fits, requests-asked, serve-nodes}
@@ -28,121 +24,114 @@ use Rattle.commands.specs.declared.Ended.{Ended}
 use Rattle.commands.specs.declared.Totals.{Totals}
 use Rattle.commands.proofs.Ends.{ends}
 
--- ---- a request
-
-abbrev Grown : State → State → Type 0
-Grown s u = (more : List Record) × (u .log ≡ s .log ++ more)
-
-grown-more : (s : State) (log : List Record) (rs : List Record) → ((more : List Record) × (log ≡ s .log ++ more))
-    → (more : List Record) × (log ++ rs ≡ s .log ++ more)
-grown-more s log rs g = (g .0 ++ rs, ap (λ (l : List Record). l ++ rs) (g .1) ∙ append-assoc (s .log) (g .0) rs)
-
-module _ (t : List Node) (sized : Sized t) (n v d : ℕ) (f : RequestFits t n v d) (s : State) where
-  request-grows : Grown s (serve t (requests n v d) s)
-  unfolding define write hold
-  request-grows =
-      serve-in t (sized-ok t sized) (Grown s) (λ k u i r. grown-more s (u .log) (keyRecords (stepIn (u .stored)) t k) r)
-      (λ c u r. grown-more s (u .log) (derivation (clauseTokens (stepIn (u .stored)) t c) ∷ clause (u .next-step) (c .literals) ∷ []) r) (λ x u r. r)
-      (requests n v d) (requests-asked t n v d f) s ([], sym (append-nil (s .log)))
-
-  pub request-keeps : (serve t (requests n v d) s .nodes ≡ s .nodes) × (serve t (requests n v d) s .next-variable ≡ s .next-variable)
-  request-keeps = serve-nodes t (sized-ok t sized) (requests n v d) (requests-asked t n v d f) s
-
 -- ---- a close
 
-module _ (c : ℕ) (held firsts ks log log′ : List ℕ) (o o′ : Out) (s : State) (x : Exact c (s .nodes) (memory held firsts ks log o) s)
-    (wrote : Puts (buffer log (o .cursor)) (4 ∷ o .stored ∷ take (o .stored) ks) (buffer log′ (o′ .cursor)))
-    (step : o′ .step ≡ o .step) (stored : o′ .stored ≡ o .stored) (count : o′ .clauses ≡ o .clauses) where
-  ss : List ℕ
-  ss = storedSteps (s .nodes) (s .stored)
-
-  is-deletion : _≡_ {A = List ℕ} (4 ∷ o .stored ∷ take (o .stored) ks) (flatMap numbers (deletion ss ∷ []))
-  unfolding flatMap numbers ss
-  is-deletion = rw (append-nil, x .stored, ← x .stored, x .steps)
-
-  closed-log : buffer log′ (o′ .cursor) ≡ puts (filled c []) (flatMap numbers (delete s .log))
-  unfolding delete ss
-  closed-log = written-more c (s .log) (buffer log (o .cursor)) (x .log) (deletion ss ∷ []) (rw is-deletion at wrote)
+module _ {c : ℕ} {store log : List ℕ} {o : Out} {s : State} (x : Exact c (s .nodes) (memory store log o) s) where
+  abbrev deleted : Record
+  deleted = deletion (storedSteps (s .nodes) (s .stored))
 
   closed-steps : steps (delete s .log) ≡ steps (s .log)
   unfolding delete
-  closed-steps = steps-append (s .log) (deletion (storedSteps (s .nodes) (s .stored)) ∷ []) ∙ (unfold steps in omega arith)
+  closed-steps = steps-append (s .log) (deleted ∷ []) ∙ (unfold steps in omega arith)
 
   closed-clauses : clauses (delete s .log) ≡ clauses (s .log)
   unfolding delete
-  closed-clauses = clauses-append (s .log) (deletion (storedSteps (s .nodes) (s .stored)) ∷ []) ∙ (unfold clauses in append-nil (clauses (s .log)))
+  closed-clauses = clauses-append (s .log) (deleted ∷ []) ∙ (unfold clauses in append-nil (clauses (s .log)))
 
-  pub closed : StandsFor c (s .nodes) (memory held firsts ks log′ o′) (delete s)
-  unfolding keys
-  closed = by (o′ .cursor .full) refl
+  closed : (log′ : List ℕ) (o′ : Out) → Puts (buffer log (o .at)) (numbers deleted) (buffer log′ (o′ .at))
+      → o′ .step ≡ o .step → o′ .marks ≡ o .marks → o′ .clauses ≡ o .clauses → Represents c (s .nodes) (memory store log′ o′) (delete s)
+  unfolding delete flatMap
+  closed log′ o′ wrote step marks count = by (took (s .log) (deleted ∷ []) (x .logged .size) (x .logged .is) (rw append-nil wrote))
     where
-      by : (b : Bool) → o′ .cursor .full ≡ b → StandsFor c (s .nodes) (memory held firsts ks log′ o′) (delete s)
-      by true e = over e (over-all closed-log)
-      by false e =
-          exact e (record {
+      size : length log′ ≡ c
+      size = wrote .onward .size ∙ x .logged .size
+
+      by : Took c (s .log) (deleted ∷ []) (buffer log′ (o′ .at)) → Represents c (s .nodes) (memory store log′ o′) (delete s)
+      by (past p q) = over (record { size = size; past = p; room = x .stores .room; more = q })
+      by (fits e) =
+          exact (record {
             small = x .small;
-            held-size = x .held-size;
-            firsts-size = x .firsts-size;
-            steps-size = x .steps-size;
-            log = closed-log;
-            step = step ∙ x .step ∙ (unfold delete in refl);
-            clauses = count ∙ x .clauses ∙ ap (λ (l : List (List ℕ)). length l) (sym closed-clauses);
-            stored = stored ∙ x .stored ∙ (unfold delete in refl);
-            steps = ap (λ (k : ℕ). take k ks) stored ∙ x .steps ∙ (unfold delete in refl);
-            firsts = unfold delete in x .firsts;
-            unshown = x .unshown;
-            held = unfold delete in x .held;
-            one = unfold delete in x .one;
-            used = unfold delete in x .used;
-            from-one = unfold delete in x .from-one;
-            from-few = unfold delete in x .from-few;
-            few = rw closed-steps (unfold delete in x .few);
-            few-clauses = rw (closed-steps, closed-clauses) (x .few-clauses);
-            few-stored = rw closed-steps (unfold delete in x .few-stored);
+            logged = record {
+              size = size;
+              is = e;
+              step = step ∙ x .logged .step;
+              clauses = count ∙ x .logged .clauses ∙ ap (λ (l : List (List ℕ)). length l) (sym closed-clauses);
+            };
+            stores = record {
+              room = x .stores .room;
+              firsts = x .stores .firsts;
+              trail = record { count = marks ∙ x .stores .trail .count; is = rw marks (x .stores .trail .is) };
+              holds = x .stores .holds;
+              blank = x .stores .blank;
+            };
+            consistent = record {
+              one = x .consistent .one;
+              used = λ k j. x .consistent .used k (unfold keys in j);
+              entry = x .consistent .entry;
+              from-one = λ k j. x .consistent .from-one k (unfold keys in j);
+              from-few = x .consistent .from-few;
+              few = omega (arith, x .consistent .few, closed-steps);
+              few-clauses = rw (closed-steps, closed-clauses) (x .consistent .few-clauses);
+              few-stored = omega (arith, x .consistent .few-stored, length-bytes (s .log) (deleted ∷ []));
+            };
           })
 
 -- ---- the commands
 
-module _ {h : Head} {c : ℕ} {ns ls os held firsts ks log : List ℕ} {z : Totals} {s : State}
-    (st : Standing h c ns ls os (memory held firsts ks log (z .out)) z s) where
+module _ {h : Head} {c : ℕ} {ns store log : List ℕ} {z : Totals} {s : State} (st : Standing h c ns (memory store log (z .out)) z s) where
   module _ (n v d : ℕ) (asked : firstNo (questions h (s .nodes) (Command.Request n v d)) ≡ 0) where
     pub fitting : RequestFits (s .nodes) n v d
     fitting = request-fits h (s .nodes) n v d asked
 
-    request-in : RequestIn ns (s .nodes) n v
-    request-in = record { rows = st .rows; there = fitting .there; above = fitting .low; within = fitting .high }
+    request-in : RequestIn (s .nodes) n v
+    request-in = record { there = fitting .there; above = fitting .low; within = fitting .high }
 
-    pub request-shown : Shown ls os (λ t. RequestIn ns t n v) (memory held firsts ks log (z .out))
+    pub request-shown : Represented ns (λ t s. RequestIn t n v) (memory store log (z .out))
     request-shown =
-        record { capacity = c; table = s .nodes; state = s; lists = st .lists; holds = request-in; stands = exact (st .room) (st .exact) }
+        record { capacity = c; nodes = s .nodes; state = s; table = st .table; holds = request-in; represents = exact (st .exact) }
 
-    pub request-tables : Tables held firsts ks
-    request-tables =
-        record { held-size = st .exact .held-size; firsts-size = st .exact .firsts-size; steps-size = st .exact .steps-size }
-
-    pub requested : (held′ firsts′ ks′ log′ : List ℕ) (o : Out)
-        → Does ls os (λ t. RequestIn ns t n v) (λ t u. serve t (requests n v d) u) (memory held firsts ks log (z .out)) (memory held′ firsts′ ks′ log′ o)
-        → (e : Ended) (log″ : List ℕ) → e ≡ endedAs z o → log″ ≡ settled (z .out .cursor .at) (buffer log′ (o .cursor)) .log
-        → Played h c (Command.Request n v d) s ns ls os held′ firsts′ ks′ log″ e
+    pub requested : (store′ log′ : List ℕ) (o : Out)
+        → Simulates ns (λ t s. RequestIn t n v) (λ t u. serve t (requests n v d) u) (memory store log (z .out)) (memory store′ log′ o)
+        → length store′ ≡ length store → (e : Ended) → e ≡ endedAs (length log′) z o → Played h c (Command.Request n v d) s ns store′ log′ e
     unfolding act
-    requested held′ firsts′ ks′ log′ o does e log″ is end =
+    requested store′ log′ o sim size e is =
         let t = s .nodes in
-        let k = request-keeps t (st .lists .sized) n v d fitting s in
-        let g = request-grows t (st .lists .sized) n v d fitting s in
-        ends st (Command.Request n v d) asked (k .0) (k .1) (g .0) (g .1) held′ firsts′ ks′ log′ o
-        (does .does c t s (st .lists) request-in (exact (st .room) (st .exact))) e log″ is end
+        let k = serve-nodes t (sized-ok t (st .table .bounded .sized)) (requests n v d) (requests-asked t n v d fitting) s in
+        ends st (Command.Request n v d) asked (k .0) (k .1) store′ log′ o
+        (sim .does c t s (st .table) request-in (exact (st .exact))) (sim .onward) size e is
+
+  pub listed : Listed ns store (z .out .marks) (s .nodes) (s .stored)
+  listed =
+      let x = st .exact in
+      record {
+        table = st .table;
+        few =
+            let l = length (bytes (s .log)) in
+            omega (arith, x .stores .trail .count, x .consistent .few-stored, x .small, Rattle.commands.proofs.Ends.fits st);
+        room = x .stores .room;
+        trail = x .stores .trail;
+        firsts = x .stores .firsts;
+        used = λ e j. x .consistent .used (e .key) (unfold keys in Memᴰ·map (λ (a : Stored). a .key) j);
+        entry = x .consistent .entry;
+        low = λ e j. omega (
+          arith,
+          x .consistent .entry e j,
+          x .consistent .from-few (e .key),
+          x .consistent .few,
+          x .small,
+          two-bytes (s .log),
+          Rattle.commands.proofs.Ends.fits st,
+        );
+      }
 
   close-asked : firstNo (questions h (s .nodes) Command.Close) ≡ 0
   unfolding questions firstNo
   close-asked = refl
 
-  pub close-ends : (log′ : List ℕ) (o : Out)
-      → Puts (buffer log (z .out .cursor)) (4 ∷ z .out .stored ∷ take (z .out .stored) ks) (buffer log′ (o .cursor))
-      → o .step ≡ z .out .step → o .stored ≡ z .out .stored → o .clauses ≡ z .out .clauses
-      → (e : Ended) (log″ : List ℕ) → e ≡ endedAs z o → log″ ≡ settled (z .out .cursor .at) (buffer log′ (o .cursor)) .log
-      → Played h c Command.Close s ns ls os held firsts ks log″ e
+  pub close-ends : (log′ : List ℕ) (o : Out) → Puts (buffer log (z .out .at)) (numbers (deletion (storedSteps (s .nodes) (s .stored)))) (buffer log′ (o .at))
+      → o .step ≡ z .out .step → o .marks ≡ z .out .marks → o .clauses ≡ z .out .clauses → (e : Ended) → e ≡ endedAs (length log′) z o
+      → Played h c Command.Close s ns store log′ e
   unfolding act
-  close-ends log′ o wrote step stored count e log″ is end =
-      ends st Command.Close close-asked (unfold delete in refl) (unfold delete in refl)
-      (deletion (storedSteps (s .nodes) (s .stored)) ∷ []) (unfold delete in refl) held firsts ks log′ o
-      (closed c held firsts ks log log′ (z .out) o s (st .exact) wrote step stored count) e log″ is end
+  close-ends log′ o wrote step marks count e is =
+      ends st Command.Close close-asked (unfold delete in refl) (unfold delete in refl) store log′ o
+      (closed (st .exact) log′ o wrote step marks count) (wrote .onward) refl e is

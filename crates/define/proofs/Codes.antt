@@ -4,113 +4,107 @@ use mathlib.Core.Bool.{false}
 use mathlib.Core.List.{List, [], _∷_, _++_, map, flatMap, map-append}
 use Prim.Native.Nat.{ℕ, _+_, _-_, _*_, _^_, _≤_, _<_}
 use native.Mathlib.Omega.{arith}
-use lib.ListN.{length, take, drop, length-take}
-use lib.Seq.{getD-take, getD-drop}
+use lib.ListN.{length, getD, take, drop, length-take}
+use Rattle.sizes.specs.Sizes.{width, trail, row, rowAt, firstAt, storeAt}
 use Rattle.pb.specs.Sum.{neg, units, keep}
 use Rattle.memo.specs.Visit.{each}
 use Rattle.memo.proofs.Unrolled.{each-append}
 use Rattle.record.specs.Record.{Record, numbers, steps, sum}
 use Rattle.record.specs.Writing.{Buffer, Puts, signed}
 use Rattle.totdb.specs.Nodes.{Node, at, len, outputs, range}
+use Rattle.totdb.proofs.Listed.{length-range}
 use Rattle.cert.specs.Definitions.{Key, real, realRecords, window-zero, window, keyRecords, atLeastZero, windowIf, windowOnlyIf, windowReals}
-use Rattle.cert.specs.State.{State, fromIn, stepIn, lookUp}
-use Rattle.cert.proofs.Apart.{length-range}
+use Rattle.cert.specs.State.{State, lookUp}
 use Rattle.cert.proofs.Counts.{steps-append}
 use Rattle.cert.proofs.WindowDerivations.{range-append}
-use Rattle.window.specs.Window.{Handed}
-use Rattle.define.specs.Tables.{Lists, Used, slot, Memory, Exact, Shown, Does, RealOf, WindowOf, WindowIn}
-use Rattle.define.specs.Stores.{outputIn, Inside, NodeOf}
-use Rattle.define.proofs.Defines.{few-steps}
-use Rattle.define.proofs.Does.{does-none, does-then, does-under, does-same, shown-to}
+use Rattle.rows.specs.Rows.{Table}
+use Rattle.rows.proofs.Reading.{row-there, len-is, first-is, list-is, from-first}
+use Rattle.define.specs.Store.{WindowOf, slot}
+use Rattle.define.specs.Represents.{Memory, Represented, Simulates}
+use Rattle.define.specs.Lookups.{NodeOf, RealOf, WindowIn}
 use Rattle.define.proofs.Reals.{at-least-zero}
-use Rattle.define.proofs.Rows.{output-is, output-low, output-at, outputs-at}
-use Rattle.define.proofs.Slots.{node-short, window-inside}
-use Rattle.define.proofs.Stores.{next-step}
+use Rattle.define.proofs.Simulates.{sims-none, sims-then, sims-under, sims-same, represented-to, store-room}
+use Rattle.define.proofs.Slots.{window-inside, slot-inside, zero-named}
 
 -- ---- real definitions
 
-pub record RealBounds (ls os : List ℕ) (n k v : ℕ) : Type 0 where
+pub record RealBounds (ns store : List ℕ) (n v : ℕ) : Type 0 where
   pub nodes : n < 319
-  pub length : k ≤ 64
-  pub values : v ≤ 65
-  pub leaves-size : lib.ListN.length ls ≡ 20416
-  pub outputs-size : lib.ListN.length os ≡ 20416
-  pub low : outputIn os n k v ≤ 2 ^ 30
+  pub there : rowAt n + row ≤ length ns
+  pub short : getD ns (rowAt n) 0 ≤ width
+  pub values : v ≤ width + 1
+  pub room : storeAt n + 134 ≤ length store
+  pub low : getD ns (firstAt n) 0 ≤ 2 ^ 30
 
-pub real-bounds : {ls os : List ℕ} {n k v : ℕ} {p : Memory} → Shown ls os (λ t. RealOf t n k v) p → RealBounds ls os n k v
-real-bounds {n = n} {k = k} {v = v} h =
+pub real-bounds : {ns : List ℕ} {n v : ℕ} {m : Memory} → Represented ns (λ t s. RealOf t n v) m → RealBounds ns (m .store) n v
+real-bounds {n = n} h =
     let r = h .holds in
-    let b = node-short (h .lists) n (r .there) in
+    let b = row-there (h .table) n (r .there) in
+    let k = len-is (h .table) n (r .there) in
     record {
-      nodes = b .0;
-      length = omega (arith, b, r .node-len);
-      values = omega (arith, b, r .node-len, r .value);
-      leaves-size = h .lists .leaves-size;
-      outputs-size = h .lists .outputs-size;
-      low = output-low (h .lists) n k v r;
+      nodes = b .1;
+      there = b .0;
+      short = omega (arith, b .2, k);
+      values = omega (arith, b .2, r .value);
+      room = omega (arith, r .there, store-room (h .represents));
+      low = rw (first-is (h .table) n (r .there)) (h .table .bounded .low n 1 (r .there) (omega arith) (omega (arith, r .long)));
     }
 
-module _ {ls os : List ℕ} {n k v o : ℕ} (e : o ≡ outputIn os n k v) where
-  pub real-node : (t : List Node) → Lists ls os t → RealOf t n k v → NodeOf (take (64 * n + k - 64 * n) (drop (64 * n) ls)) v o (at t n)
-  real-node t l r =
-      let q : 64 * n + k - 64 * n ≡ len (at t n) = omega (arith, r .node-len) in
-      record { leaf-list = rw q (sym (l .row n (r .there) .leaf-list)); literal = λ a b. rw e (output-is l n k v r a b) }
+-- By the place r of the node's row, and the length k that stands there.
+module _ (ns : List ℕ) (n v : ℕ) {r k : ℕ} (re : r ≡ rowAt n) (ke : k ≡ getD ns r 0) where
+  pub row-length : k ≡ getD ns (rowAt n) 0
+  row-length = rw re at ke
+
+  pub real-node : (t : List Node) → Table ns t → RealOf t n v
+      → NodeOf (take (r + 14 + k - (r + 14)) (drop (r + 14) ns)) (getD ns (r + 1) 0) (at t n)
+  real-node t l x =
+      let q : rowAt n + 14 + k - (rowAt n + 14) ≡ len (at t n) = omega (arith, row-length, len-is l n (x .there)) in
+      record {
+        leaf-list = rw (re, q) (sym (list-is l n (x .there)));
+        outputs = λ i a b. rw (re, first-is l n (x .there)) (from-first (at t n) i a b);
+      }
 
   pub real-writes : {b d : Buffer}
-      → ((x : Node) → NodeOf (take (64 * n + k - 64 * n) (drop (64 * n) ls)) v o x → Puts b (flatMap numbers (realRecords x v)) d)
-      → (t : List Node) (f : Key → ℕ → ℕ) → Lists ls os t → RealOf t n k v → Puts b (flatMap numbers (keyRecords f t (real n v))) d
+      → ((x : Node) → NodeOf (take (r + 14 + k - (r + 14)) (drop (r + 14) ns)) (getD ns (r + 1) 0) x → Puts b (flatMap numbers (realRecords x v)) d)
+      → (t : List Node) (f : Key → ℕ → ℕ) → Table ns t → RealOf t n v → Puts b (flatMap numbers (keyRecords f t (real n v))) d
   unfolding keyRecords
-  real-writes w t f l r = w (at t n) (real-node t l r)
+  real-writes w t f l x = w (at t n) (real-node t l x)
 
-pub real-count : {n k v i : ℕ} → ((x : Node) → len x ≡ k → i ≡ steps (realRecords x v)) → (t : List Node) (f : Key → ℕ → ℕ) → RealOf t n k v
-    → i ≡ steps (keyRecords f t (real n v))
-unfolding keyRecords
-real-count {n = n} w t f r = w (at t n) (sym (r .node-len))
+  pub real-count : {i : ℕ} → ((x : Node) → len x ≡ k → i ≡ steps (realRecords x v))
+      → (t : List Node) (f : Key → ℕ → ℕ) → Table ns t → RealOf t n v → i ≡ steps (keyRecords f t (real n v))
+  unfolding keyRecords
+  real-count w t f l x = w (at t n) (sym (row-length ∙ len-is l n (x .there)))
 
--- ---- windows
-
-pub part-short : (a k : ℕ) (l : List ℕ) → k ≤ 64 → length (take (a + k - a) (drop a l)) ≤ 64
+pub part-short : (a k : ℕ) (l : List ℕ) → k ≤ width → length (take (a + k - a) (drop a l)) ≤ width
 part-short a k l h = rw (length-take (a + k - a) (drop a l)) (omega arith)
 
-pub window-bounds : {ls os : List ℕ} {n k f m : ℕ} {p : Memory} → Shown ls os (λ t. WindowIn t n k f m) p → Inside os n f m
-window-bounds {n = n} {f = f} {m = m} h =
-    let w = window-inside (h .lists) (h .holds .shown) in
-    let b = node-short (h .lists) n (w .0) in
-    record { nodes = b .0; values = omega (arith, b, w); several = w .2; size = h .lists .outputs-size }
+-- ---- the sum of value 0 of a window
 
-module _ {ls os : List ℕ} {n f m : ℕ} where
-  -- The sum of value 0.
-  pub zero-writes : {b d : Buffer}
-      → Puts b (numbers (sum 0 (units (signed false (take (64 * n + f + m - (64 * n + f)) (drop (64 * n + f) os))) ++ keep 0 0 []) 0)) d
-      → (t : List Node) (g : Key → ℕ → ℕ) → Lists ls os t → WindowOf t n f m → Puts b (flatMap numbers (keyRecords g t (window-zero n f m))) d
-  unfolding keyRecords signed
-  zero-writes w t g l u =
-      let i = window-inside l u in
-      let q : 64 * n + f + m - (64 * n + f) ≡ m = omega arith in
-      rw (← at-least-zero (outputs (at t n) f m), ← outputs-at l n (i .0) f m (i .1), ← q) w
+pub record SlotBounds (store : List ℕ) (p : ℕ) : Type 0 where
+  pub above : trail ≤ p
+  pub inside : p < length store
+  pub small : p < 4294967296
 
-  -- The rest of the window.
-  pub window-handed : {c : ℕ} {t : List Node} {p : Memory} {s : State} → Lists ls os t → WindowOf t n f m → Exact c t p s
-      → p .out .cursor .full ≡ false
-      → Handed (p .firsts) (take (64 * n + 64 - 64 * n) (drop (64 * n) os)) (stepIn (s .stored)) n (at t n) f m
-  unfolding stepIn Used slot
-  window-handed {c} {t} {p} {s} l u ex h =
-      let i = window-inside l u in
-      let short = node-short l n (i .0) in
-      record {
-        if-step = λ v a b. let e : fromIn (s .stored) (real n v) + 0 ≡ fromIn (s .stored) (real n v) = omega arith in
-            rw e (sym (ex .firsts (real n v) (short .0, omega (arith, i, short))));
-        only-if-step = λ v a b. let e = ex .firsts (real n v) (short .0, omega (arith, i, short)) in
-            rw (e, next-step (fromIn (s .stored) (real n v)) (omega (arith, ex .from-few (real n v), ex .few, few-steps c t p s ex h)));
-        literal = λ v a b. let q : 64 * n + 64 - 64 * n ≡ 64 = omega arith in
-            let e : 64 * n + (v - 1) ≡ 64 * n + v - 1 = omega arith in
-            rw (q, getD-take 64 (drop (64 * n) os) (v - 1) 0 (omega (arith, i, short)), getD-drop (64 * n) os (v - 1) 0, e)
-            (sym (output-at l n (i .0) v (omega arith) (omega (arith, i))));
-      }
+pub zero-bounds : {ns os : List ℕ} {p n f m : ℕ} {k : Memory} → Represented ns (λ t s. WindowIn t os p n f m) k → SlotBounds (k .store) p
+unfolding slot
+zero-bounds h =
+    let b = h .table .bounded in
+    let w = h .holds .shown in
+    let i = slot-inside b (window-zero _ _ _) (zero-named b w .used) in
+    let e = h .holds .slot in
+    record { above = omega (arith, e, i .0); inside = omega (arith, e, i .1, store-room (h .represents)); small = omega (arith, e, i .2) }
+
+pub zero-writes : {os : List ℕ} {p n f m : ℕ} {b d : Buffer}
+    → Puts b (numbers (sum 0 (units (signed false os) ++ keep 0 0 []) 0)) d
+    → (t : List Node) (g : Key → ℕ → ℕ) → WindowIn t os p n f m → Puts b (flatMap numbers (keyRecords g t (window-zero n f m))) d
+unfolding keyRecords signed
+zero-writes {n = n} {f = f} {m = m} w t g u = rw (← at-least-zero (outputs (at t n) f m), ← u .list) w
 
 pub zero-count : (n f m : ℕ) (t : List Node) (g : Key → ℕ → ℕ) → 1 ≡ steps (keyRecords g t (window-zero n f m))
 unfolding keyRecords steps atLeastZero
 zero-count n f m t g = refl
+
+-- ---- the rest of a window
 
 windows-steps : (f : Key → ℕ → ℕ) (n : ℕ) (x : Node) (o m : ℕ) (vs : List ℕ)
     → steps (flatMap {B = Record} (λ (v : ℕ). windowIf f n x o m v ∷ windowOnlyIf f n x o m v ∷ []) vs) ≡ 2 * length vs
@@ -139,20 +133,20 @@ reals-snoc n f i t s =
     ∙ each-append (lookUp t) (map g (range 1 i)) (map g (range (1 + i) 1)) s
     ∙ rw e
 
-module _ {ls os : List ℕ} {n k f m i : ℕ} (h : i < m) where
-  real-in : (t : List Node) → Lists ls os t → WindowIn t n k f m → RealOf t n k (f + i + 1)
-  real-in t l w =
-      let b = window-inside l (w .shown) in
-      record { there = b .0; node-len = w .node-len; value = omega (arith, b, w .node-len) }
+module _ {ns : List ℕ} {n f m i : ℕ} (h : i < m) where
+  real-in : (t : List Node) (s : State) → Table ns t → WindowOf t n f m → RealOf t n (f + i + 1)
+  real-in t s l w =
+      let b = window-inside (l .bounded) w in
+      record { there = b .0; long = omega (arith, b .1, b .2); value = omega (arith, b .1) }
 
-  pub real-shown : {p : Memory} → Shown ls os (λ t. WindowIn t n k f m) p → Shown ls os (λ t. RealOf t n k (f + i + 1)) p
-  real-shown s = shown-to real-in s
+  pub real-represented : {p : Memory} → Represented ns (λ t s. WindowOf t n f m) p → Represented ns (λ t s. RealOf t n (f + i + 1)) p
+  real-represented s = represented-to real-in s
 
-  pub reals-more : {p a b : Memory} → Does ls os (λ t. WindowIn t n k f m) (λ t s. each (lookUp t) (windowReals n f i) s) p a
-      → Does ls os (λ t. RealOf t n k (f + i + 1)) (λ t s. lookUp t (real n (f + i + 1)) s) a b
-      → Does ls os (λ t. WindowIn t n k f m) (λ t s. each (lookUp t) (windowReals n f (i + 1)) s) p b
-  reals-more x y = does-same (λ t s l w. sym (reals-snoc n f i t s)) (does-then x (does-under real-in y))
+  pub reals-more : {p a b : Memory} → Simulates ns (λ t s. WindowOf t n f m) (λ t s. each (lookUp t) (windowReals n f i) s) p a
+      → Simulates ns (λ t s. RealOf t n (f + i + 1)) (λ t s. lookUp t (real n (f + i + 1)) s) a b
+      → Simulates ns (λ t s. WindowOf t n f m) (λ t s. each (lookUp t) (windowReals n f (i + 1)) s) p b
+  reals-more x y = sims-same (λ t s l w. sym (reals-snoc n f i t s)) (sims-then x (sims-under real-in y))
 
-pub reals-none : {ls os : List ℕ} {P : List Node → Type 0} (n f : ℕ) {p : Memory} → Does ls os P (λ t s. each (lookUp t) (windowReals n f 0) s) p p
+pub reals-none : {ns : List ℕ} {P : List Node → State → Type 0} (n f : ℕ) {p : Memory} → Simulates ns P (λ t s. each (lookUp t) (windowReals n f 0) s) p p
 unfolding each range
-reals-none n f = does-none
+reals-none n f = sims-none

@@ -1,12 +1,12 @@
--- The lookups of definitions.
-pub mod Reals
+-- What the code of lookups rests on.
 pub mod Written
-pub mod Does
-pub mod Stores
+pub mod Simulates
 pub mod Slots
-pub mod Rows
 pub mod Entries
+pub mod Reals
 pub mod Defines
 pub mod Looks
 pub mod Codes
-pub mod Sides
+pub mod Windows
+pub mod SideLooks
+pub mod HeldCases

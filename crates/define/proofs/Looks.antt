@@ -1,42 +1,44 @@
 -- Lookups: of a key that is stored, of one that is not, and where the log is too short.
 use mathlib.Core.Path.{_≡_, refl, ap, subst, _∙_}
-use mathlib.Core.Bool.{true, false}
 use mathlib.Core.Logic.{⊎-elim}
 use mathlib.Core.List.{List, [], flatMap, List·Memᴰ}
 use Prim.Native.Nat.{ℕ, _≤_}
 use native.Mathlib.Omega.{arith}
-use lib.ListN.{getD, set}
+use lib.ListN.{length, getD}
 use Rattle.memo.specs.Closure.{Reach, reach-here, reach-down}
 use Rattle.memo.specs.Visit.{each, decMemᴰ}
 use Rattle.memo.proofs.Machine.{asks-serve}
 use Rattle.memo.proofs.Unrolled.{ask-all, ask-there, ask-new}
-use Rattle.record.specs.Record.{numbers, steps}
-use Rattle.record.specs.Writing.{buffer, Puts}
-use Rattle.record.specs.declared.Cursor.{Cursor}
+use Rattle.record.specs.Record.{numbers, steps, bytes}
+use Rattle.record.specs.Writing.{buffer, Onward, Puts}
+use Rattle.record.proofs.Writing.{stays, onward-then}
 use Rattle.totdb.specs.Nodes.{Node}
 use Rattle.cert.specs.Definitions.{Key, window-zero, window, pulls, keyRecords, windowReals}
 use Rattle.cert.specs.Equal.{key-dec, keyRank}
 use Rattle.cert.specs.State.{State, keys, stepIn, define, lookUp}
 use Rattle.cert.proofs.Fits.{KeyFits, key-falls}
 use Rattle.cert.proofs.Serving.{define-keys}
+use Rattle.rows.specs.Rows.{Table}
 use Rattle.define.specs.declared.Out.{Out}
-use Rattle.define.specs.Tables.{Lists, Used, WindowOf, slot, Memory, memory, Exact, Over, StandsFor, exact, over, Shown, Does}
-use Rattle.define.specs.Stores.{kept, storeSteps, moved, New, ShownFrom, DoesFrom}
-use Rattle.define.proofs.Defines.{defined}
-use Rattle.define.proofs.Does.{grown, Grows, exact-of, does-full, does-open}
+use Rattle.define.specs.Store.{Used, WindowOf, slot, Kept, kept, keyStored}
+use Rattle.define.specs.Represents.{Memory, memory, Exact, Represents, exact, Represented, Simulates}
+use Rattle.define.specs.Lookups.{New}
+use Rattle.define.proofs.Defines.{defined, stored-at}
 use Rattle.define.proofs.Entries.{from-missing}
+use Rattle.define.proofs.Simulates.{grown, Grows, exact-of, sims-open}
 use Rattle.define.proofs.Slots.{Named, window-named}
-use Rattle.define.proofs.Written.{true-false}
 
 -- ---- a log that was too short stays too short
 
 pub define-grows : (k : Key) → Grows (λ t s. define t k s)
 unfolding define
-define-grows k c m t s x = grown (keyRecords (stepIn (s .stored)) t k) refl x
+define-grows k t s = grown s (define t k s) (keyRecords (stepIn (s .stored)) t k) refl
 
 pub look-up-grows : (k : Key) → Grows (λ t s. lookUp t k s)
 unfolding lookUp
-look-up-grows k c m t s x = ask-all key-dec pulls keyRank keys (define t) (Over c m) (λ j u y. define-grows j c m t u y) k s x
+look-up-grows k t s =
+    ask-all key-dec pulls keyRank keys (define t) (λ u. length (bytes (s .log)) ≤ length (bytes (u .log)))
+    (λ j u y. omega (arith, y, define-grows j t u)) k s (omega arith)
 
 -- ---- a key that is stored, and one that is not
 
@@ -66,71 +68,60 @@ module _ (t : List Node) (k : Key) (fits : KeyFits t k) (s : State) where
             (z .only k i);
       }
 
--- Whether it is stored, by the table.
+-- Whether it is stored, by the store.
 module _ {c : ℕ} {t : List Node} {m : Memory} {s : State} (ex : Exact c t m s) (k : Key) (used : Used t k) where
-  there : (getD (m .firsts) (slot k) 0 ≡ 0 → ⊥) → List·Memᴰ k (keys s)
+  pub there : (getD (m .store) (slot t k) 0 ≡ 0 → ⊥) → List·Memᴰ k (keys s)
   unfolding keys
   there h = by (decMemᴰ key-dec k (keys s))
     where
       by : Dec (List·Memᴰ k (keys s)) → List·Memᴰ k (keys s)
       by (yes i) = i
-      by (no i) = absurd (h (ex .firsts k used ∙ from-missing (s .stored) k i))
+      by (no i) = absurd (h (ex .stores .firsts .is k used ∙ from-missing (s .stored) k i))
 
-  not-there : getD (m .firsts) (slot k) 0 ≡ 0 → ¬ List·Memᴰ k (keys s)
-  not-there h i = omega (arith, h, ex .firsts k used, ex .from-one k i)
+  not-there : getD (m .store) (slot t k) 0 ≡ 0 → ¬ List·Memᴰ k (keys s)
+  not-there h i = omega (arith, h, ex .stores .firsts .is k used, ex .consistent .from-one k i)
 
 -- ---- the code of a lookup
 
-pub full-defines : {ls os : List ℕ} {Q : List Node → State → Type 0} (k : Key) (m : Memory) → m .out .cursor .full ≡ true
-    → DoesFrom ls os Q (λ t s. define t k s) m m
-full-defines k m h = record { does = λ c t s l p st. by c t s st }
-  where
-    by : (c : ℕ) (t : List Node) (s : State) → StandsFor c t m s → StandsFor c t m (define t k s)
-    by c t s (exact e x) = true-false h e
-    by c t s (over e x) = over e (define-grows k c m t s x)
+module _ {ns : List ℕ} {P : List Node → State → Type 0} (k : Key) (p : ℕ) (m : Memory) (h : m .out .at ≤ length (m .log))
+    (named : (t : List Node) (s : State) → Table ns t → P t s → Named t k) (place : (t : List Node) (s : State) → Table ns t → P t s → slot t k ≡ p) where
+  -- The key is stored.
+  pub sims-there : (getD (m .store) p 0 ≡ 0 → ⊥) → Simulates ns P (λ t s. lookUp t k s) m m
+  sims-there f = sims-open h stays
+      (λ c t s l q x. let u = named t s l q in
+      rw (look-up-there t k (u .fits) s (there x k (u .used) (rw (← place t s l q) at f))) (exact x))
 
-module _ {ls os : List ℕ} {P : List Node → Type 0} (k : Key) (m : Memory) where
-  -- The flag is set.
-  pub full-does : m .out .cursor .full ≡ true → Does ls os P (λ t s. lookUp t k s) m m
-  full-does h = does-full (look-up-grows k) h
+  -- Its records are written.
+  pub sims-define : {store′ log′ : List ℕ} {a : ℕ} {o : Out} (n : ℕ)
+      → ((c : ℕ) (t : List Node) (s : State) → Table ns t → P t s → New k s → Exact c t m s
+      → Puts (buffer (m .log) (m .out .at)) (flatMap numbers (keyRecords (stepIn (s .stored)) t k)) (buffer log′ a))
+      → Onward (buffer (m .log) (m .out .at)) (buffer log′ a)
+      → ((t : List Node) (s : State) (g : Key → ℕ → ℕ) → Table ns t → P t s → n ≡ steps (keyRecords g t k))
+      → kept store′ o ≡ keyStored p a n (kept (m .store) (m .out))
+      → Simulates ns (λ t s. P t s × New k s) (λ t s. define t k s) m (memory store′ log′ o)
+  sims-define {store′} {log′} {a} {o} n w on count is =
+      sims-open h (rw (ap (λ (x : Kept). x .out .at) is ∙ stored-at p a n (kept (m .store) (m .out))) on)
+      (λ c t s l q x.
+      defined (l .bounded) x k (named t s l (q .0) .used) (q .1 .new) (w c t s l (q .0) (q .1) x) n (count t s (stepIn (s .stored)) l (q .0))
+      (rw (place t s l (q .0)) is))
 
-  module _ (h : m .out .cursor .full ≡ false) (named : (t : List Node) → Lists ls os t → P t → Named t k) where
-    -- The key is stored.
-    pub there-does : (getD (m .firsts) (slot k) 0 ≡ 0 → ⊥) → Does ls os P (λ t s. lookUp t k s) m m
-    there-does f = does-open h
-        (λ c t s l p x. let u = named t l p in rw (look-up-there t k (u .fits) s (there x k (u .used) f)) (exact h x))
-
-    -- Its records are written.
-    pub define-does : {f k′ log′ : List ℕ} {cur : Cursor} {o : Out} (n : ℕ)
-        → ((c : ℕ) (t : List Node) (s : State) → Lists ls os t → P t → New k s → Exact c t m s
-        → Puts (buffer (m .log) (m .out .cursor)) (flatMap numbers (keyRecords (stepIn (s .stored)) t k)) (buffer log′ cur))
-        → ((t : List Node) (g : Key → ℕ → ℕ) → P t → n ≡ steps (keyRecords g t k))
-        → f ≡ set (m .firsts) (slot k) (m .out .step) → kept k′ o ≡ storeSteps n (kept (m .steps) (moved cur (m .out)))
-        → DoesFrom ls os (λ t s. P t × New k s) (λ t s. define t k s) m (memory (m .held) f k′ log′ o)
-    define-does {f} {k′} {log′} {cur} {o} n w count fq kq = record { does = λ c t s l p st. by c t s l p st }
-      where
-        by : (c : ℕ) (t : List Node) (s : State) → Lists ls os t → P t × New k s → StandsFor c t m s
-            → StandsFor c t (memory (m .held) f k′ log′ o) (define t k s)
-        by c t s l p (exact e x) =
-            defined l x k (named t l (p .0) .used) (p .1 .new) (w c t s l (p .0) (p .1) x) fq n (count t (stepIn (s .stored)) (p .0)) kq
-        by c t s l p (over e x) = true-false e h
-
-    -- A key that pulls in nothing.
-    pub new-does : {r : Memory} → pulls k ≡ [] → getD (m .firsts) (slot k) 0 ≡ 0
-        → DoesFrom ls os (λ t s. P t × New k s) (λ t s. define t k s) m r → Does ls os P (λ t s. lookUp t k s) m r
-    new-does {r} none f d = does-open h
-        (λ c t s l p x.
-        let u = named t l p in
-        let i = not-there x k (u .used) f in
-        let q : lookUp t k s ≡ define t k s = look-up-new t k (u .fits) s i ∙ ap (λ (ks : List Key). define t k (each (lookUp t) ks s)) none
-        ∙ (unfold each in refl) in
-        rw q (d .does c t s l (p, record { new = i }) (exact h x)))
+  -- A key that pulls in nothing.
+  pub sims-new : {r : Memory} → pulls k ≡ [] → getD (m .store) p 0 ≡ 0
+      → Simulates ns (λ t s. P t s × New k s) (λ t s. define t k s) m r → Simulates ns P (λ t s. lookUp t k s) m r
+  sims-new {r} none f d = sims-open h (d .onward)
+      (λ c t s l q x.
+      let u = named t s l q in
+      let i = not-there x k (u .used) (rw (← place t s l q) at f) in
+      let e : lookUp t k s ≡ define t k s = look-up-new t k (u .fits) s i ∙ ap (λ (ks : List Key). define t k (each (lookUp t) ks s)) none
+      ∙ (unfold each in refl) in
+      rw e (d .does c t s l (q, record { new = i }) (exact x)))
 
 -- The sum of value 0, the real definitions, then the rest.
-module _ {ls os : List ℕ} {P : List Node → Type 0} (n f m : ℕ) {p a b : Memory} (h : p .out .cursor .full ≡ false)
-    (z : getD (p .firsts) (slot (window n f m)) 0 ≡ 0) (shown : (t : List Node) → P t → WindowOf t n f m)
-    (first : Does ls os (λ t. WindowOf t n f m) (λ t s. lookUp t (window-zero n f m) s) p a)
-    (second : Does ls os P (λ t s. each (lookUp t) (windowReals n f m) s) a b) where
+module _ {ns : List ℕ} {P : List Node → Type 0} (n f m slot′ : ℕ) {p a b : Memory} (h : p .out .at ≤ length (p .log))
+    (z : getD (p .store) slot′ 0 ≡ 0) (shown : (t : List Node) → Table ns t → P t → WindowOf t n f m)
+    (place : (t : List Node) → Table ns t → P t → slot t (window n f m) ≡ slot′)
+    (first : Simulates ns (λ t s. P t) (λ t s. lookUp t (window-zero n f m) s) p a)
+    (second : Simulates ns (λ t s. P t) (λ t s. each (lookUp t) (windowReals n f m) s) a b) where
   abbrev pulled : List Node → State → State
   pulled t s = each (lookUp t) (windowReals n f m) (lookUp t (window-zero n f m) s)
 
@@ -138,33 +129,37 @@ module _ {ls os : List ℕ} {P : List Node → Type 0} (n f m : ℕ) {p a b : Me
   unfolding each pulls
   same t s = refl
 
-  pulled-stands : (c : ℕ) (t : List Node) (s : State) → Lists ls os t → P t → StandsFor c t p s → StandsFor c t b (pulled t s)
-  pulled-stands c t s l q x = second .does c t _ l q (first .does c t s l (shown t q) x)
+  pulled-stands : (c : ℕ) (t : List Node) (s : State) → Table ns t → P t → Represents c t p s → Represents c t b (pulled t s)
+  pulled-stands c t s l q x = second .does c t _ l q (first .does c t s l q x)
 
-  pulled-new : (c : ℕ) (t : List Node) (s : State) → Lists ls os t → P t → Exact c t p s → New (window n f m) (pulled t s)
+  missing : (c : ℕ) (t : List Node) (s : State) → Table ns t → P t → Exact c t p s → ¬ List·Memᴰ (window n f m) (keys s)
+  missing c t s l q x =
+      not-there x (window n f m) (window-named (l .bounded) (shown t l q) .used) (rw (← place t l q) at z)
+
+  pulled-new : (c : ℕ) (t : List Node) (s : State) → Table ns t → P t → Exact c t p s → New (window n f m) (pulled t s)
   pulled-new c t s l q x =
-      let u = window-named l (shown t q) in
-      subst (New (window n f m)) (same t s) (still-new t (window n f m) (u .fits) s (not-there x (window n f m) (u .used) z))
+      let u = window-named (l .bounded) (shown t l q) in
+      subst (New (window n f m)) (same t s) (still-new t (window n f m) (u .fits) s (missing c t s l q x))
 
-  pub window-does : {r : Memory}
-      → DoesFrom ls os (λ t s. WindowOf t n f m × New (window n f m) s) (λ t s. define t (window n f m) s) b r
-      → Does ls os P (λ t s. lookUp t (window n f m) s) p r
-  window-does third = does-open h
+  pub sims-window : {r : Memory}
+      → Simulates ns (λ t s. P t × New (window n f m) s) (λ t s. define t (window n f m) s) b r
+      → Simulates ns (λ t s. P t) (λ t s. lookUp t (window n f m) s) p r
+  sims-window third = sims-open h (onward-then (first .onward) (onward-then (second .onward) (third .onward)))
       (λ c t s l q x.
-      let u = window-named l (shown t q) in
-      rw (look-up-new t (window n f m) (u .fits) s (not-there x (window n f m) (u .used) z), same t s)
-      (third .does c t _ l (shown t q, pulled-new c t s l q x) (pulled-stands c t s l q (exact h x))))
+      let u = window-named (l .bounded) (shown t l q) in
+      rw (look-up-new t (window n f m) (u .fits) s (missing c t s l q x), same t s)
+      (third .does c t _ l (q, pulled-new c t s l q x) (pulled-stands c t s l q (exact x))))
 
   -- What the rest needs.
-  pub rest-shown : Shown ls os P p → ShownFrom ls os (λ t s. WindowOf t n f m × New (window n f m) s) b
-  rest-shown s = record {
+  pub rest-represented : Represented ns (λ t s. P t) p → Represented ns (λ t s. P t × New (window n f m) s) b
+  rest-represented s = record {
     capacity = s .capacity;
+    nodes = s .nodes;
+    state = pulled (s .nodes) (s .state);
     table = s .table;
-    state = pulled (s .table) (s .state);
-    lists = s .lists;
     holds = (
-      shown (s .table) (s .holds),
-      pulled-new (s .capacity) (s .table) (s .state) (s .lists) (s .holds) (exact-of h (s .stands)),
+      s .holds,
+      pulled-new (s .capacity) (s .nodes) (s .state) (s .table) (s .holds) (exact-of h (s .represents)),
     );
-    stands = pulled-stands (s .capacity) (s .table) (s .state) (s .lists) (s .holds) (s .stands);
+    represents = pulled-stands (s .capacity) (s .nodes) (s .state) (s .table) (s .holds) (s .represents);
   }

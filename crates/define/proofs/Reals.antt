@@ -1,14 +1,17 @@
--- The records of a real definition, as `put_real` writes them, and how many they are.
-use mathlib.Core.Path.{_≡_, refl}
+-- The records of a real definition, as `put_real` writes them; how many they are, and that they take eight bytes or more.
+use mathlib.Core.Path.{_≡_, refl, _∙_}
 use mathlib.Core.Bool.{true, false}
 use mathlib.Core.Logic.{dite}
 use mathlib.Core.List.{List, [], _∷_, _++_, map, flatMap, append-nil}
 use Prim.Native.Nat.{ℕ, zero, suc, _+_, _-_, _≤_, _<_}
 use native.Mathlib.Decide.{decLt}
 use native.Mathlib.Omega.{arith}
+use lib.ListN.{length, length-append, length-map}
 use Rattle.pb.specs.Sum.{_·_, neg, units, keep}
-use Rattle.record.specs.Record.{Record, numbers, steps, sum}
+use Rattle.record.specs.Record.{Record, numbers, bytes, steps, sum}
 use Rattle.record.specs.Writing.{signed}
+use Rattle.record.proofs.Bytes.{sum-bytes}
+use Rattle.record.proofs.Sums.{units-length}
 use Rattle.totdb.specs.Nodes.{Node, leaves, len, output}
 use Rattle.cert.specs.Definitions.{realRecords, realIf, realOnlyIf, atLeastZero}
 use Rattle.cert.proofs.Known.{keep-pos, real-two}
@@ -72,3 +75,35 @@ module _ (x : Node) (v : ℕ) where
   pub within-steps : 0 < v → v ≤ len x → 2 ≡ steps (realRecords x v)
   unfolding steps realIf realOnlyIf
   within-steps h k = rw (real-two x v h k)
+
+-- ---- how many bytes they take
+
+pub zero-bytes : (ls : List ℕ) → 1 < length ls → 8 ≤ length (bytes (atLeastZero ls ∷ []))
+unfolding atLeastZero
+zero-bytes ls h = omega (arith, sum-bytes 0 (units ls) 0 [], units-length ls)
+
+pair-bytes : (x : Node) (v : ℕ) → 1 < len x → 8 ≤ length (bytes (realIf x v ∷ realOnlyIf x v ∷ []))
+unfolding realIf len
+pair-bytes x v h =
+    let ls : List ℕ = map neg (leaves x) in
+    omega (
+      arith,
+      sum-bytes (output x v + 1) (units ls ++ ((len x + 1 - v) · output x v ∷ [])) (len x + 1 - v) (realOnlyIf x v ∷ []),
+      length-append (units ls) ((len x + 1 - v) · output x v ∷ []),
+      units-length ls,
+      length-map (leaves x) neg,
+    )
+
+pub real-bytes : (x : Node) (v : ℕ) → 1 < len x → 8 ≤ length (bytes (realRecords x v))
+real-bytes x v h = by (decLt 0 v) (decLt (len x) v)
+  where
+    leaves-length : length (leaves x) ≡ len x
+    leaves-length = unfold len in refl
+
+    negated : length (map neg (leaves x)) ≡ len x
+    negated = length-map (leaves x) neg ∙ leaves-length
+
+    by : Dec (0 < v) → Dec (len x < v) → 8 ≤ length (bytes (realRecords x v))
+    by (no p) d = rw (real-zero x v (omega arith)) (zero-bytes (leaves x) (omega (arith, leaves-length)))
+    by (yes p) (yes q) = rw (real-above x v p q) (zero-bytes (map neg (leaves x)) (omega (arith, negated)))
+    by (yes p) (no q) = rw (real-two x v p (omega arith)) (pair-bytes x v h)

@@ -1,28 +1,29 @@
--- A log written from its beginning: where the flag is not set the records fit, and more records after them.
+-- Records written after those of a log: they fit, or they do not.
 use mathlib.Core.Path.{_≡_, sym, ap, _∙_}
-use mathlib.Core.Bool.{Bool, true, false}
-use mathlib.Core.List.{List, [], _++_, flatMap}
-use Prim.Native.Nat.{ℕ, _≤_}
+use mathlib.Core.List.{List, _++_, flatMap}
+use Prim.Native.Nat.{ℕ, _+_, _≤_, _<_}
 use native.Mathlib.Decide.{decLe}
 use native.Mathlib.Omega.{arith}
 use lib.ListN.{length}
-use Rattle.memo.proofs.Lists.{flatMap-append}
 use Rattle.record.specs.Record.{Record, numbers, bytes}
-use Rattle.record.specs.Writing.{Buffer, filled, puts, Puts}
-use Rattle.record.proofs.Writing.{after, puts-flag}
+use Rattle.record.specs.Writing.{Buffer, content, written, append, Puts}
+use Rattle.record.proofs.Bytes.{bytes-append, length-bytes}
+use Rattle.record.proofs.Writing.{append-fits, append-over, is-over}
 
-pub true-false : {A : Type 0} {b : Bool} → b ≡ true → b ≡ false → A
-true-false p q = absurd (let z : _≡_ {A = ℕ} 0 1 = cc in omega arith)
+-- The log after it, of c bytes, had the records rs and took qs.
+pub data Took (c : ℕ) (rs qs : List Record) (d : Buffer) : Type 0 where
+  fits : content d ≡ written (bytes (rs ++ qs)) → Took c rs qs d
+  past : c < d .at → c < length (bytes (rs ++ qs)) → Took c rs qs d
 
-module _ (c : ℕ) (rs : List Record) (b : Buffer) (is : b ≡ puts (filled c []) (flatMap numbers rs)) where
-  pub not-full : b .cursor .full ≡ false → length (bytes rs) ≤ c
-  unfolding bytes
-  not-full h = by (decLe (length (bytes rs)) c)
-    where
-      by : Dec (length (bytes rs) ≤ c) → length (bytes rs) ≤ c
-      by (yes k) = k
-      by (no k) =
-          true-false (ap (λ (a : Buffer). a .cursor .full) is ∙ puts-flag c [] (flatMap numbers rs) (omega arith) (omega arith)) h
+pub took : {c : ℕ} {b d : Buffer} (rs qs : List Record) → length (b .log) ≡ c → content b ≡ written (bytes rs) → Puts b (flatMap numbers qs) d → Took c rs qs d
+unfolding bytes
+took {c} {b} {d} rs qs size is p = by (decLe (length (bytes rs) + length (bytes qs)) c)
+  where
+    after : content d ≡ append c (bytes qs) (written (bytes rs))
+    after = p .is ∙ rw (is, size)
 
-  pub written-more : {d : Buffer} (qs : List Record) → Puts b (flatMap numbers qs) d → d ≡ puts (filled c []) (flatMap numbers (rs ++ qs))
-  written-more qs p = after (record { is = is }) p .is ∙ ap (puts (filled c [])) (sym (flatMap-append numbers rs qs))
+    by : Dec (length (bytes rs) + length (bytes qs) ≤ c) → Took c rs qs d
+    by (yes h) = fits (after ∙ append-fits c (bytes qs) (bytes rs) h ∙ ap written (sym (bytes-append rs qs)))
+    by (no h) =
+        past (omega (arith, is-over (d .log) (d .at) (after ∙ append-over c (bytes qs) (bytes rs) (omega arith)), p .onward .size, size))
+        (omega (arith, length-bytes rs qs))

@@ -1,2 +1,3 @@
-pub mod Tables
-pub mod Stores
+pub mod Store
+pub mod Represents
+pub mod Lookups

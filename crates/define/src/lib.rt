@@ -1,12 +1,12 @@
-// Definitions in tables by node and value: looked up, and written whole at their first lookup.
-// `specs/Tables.antt` says what the tables stand for.
-use record::Cursor;
-use totdb::Side;
+// Definitions by the places of their first steps in the store: looked up, and written whole at their first lookup.
+// `specs/Store.antt` says where these places are, `specs/Represents.antt` what state the memory represents.
+use record::Sum;
+use rows::Shown;
 ghost use mathlib.Core.Path.{_≡_};
-ghost use mathlib.Core.Bool.{false};
 ghost use mathlib.Core.List.{List, flatMap};
-ghost use Prim.Native.Nat.{ℕ, _^_, _≤_, _<_};
-ghost use lib.ListN.{length, set};
+ghost use Prim.Native.Nat.{ℕ, _+_, _^_, _≤_, _<_};
+ghost use lib.ListN.{length};
+ghost use Rattle.sizes.specs.Sizes.{width, trail, storeAt};
 ghost use Rattle.memo.specs.Visit.{each};
 ghost use Rattle.record.specs.Record.{numbers, steps};
 ghost use Rattle.record.specs.Writing.{buffer, Puts};
@@ -14,62 +14,72 @@ ghost use Rattle.totdb.specs.Nodes.{Node};
 ghost use Rattle.cert.specs.Definitions.{Direction, real, realRecords, window-zero, window, sideDef, windowReals};
 ghost use Rattle.cert.specs.Requests.{keyOf};
 ghost use Rattle.cert.specs.State.{lookUp, define};
-ghost use Rattle.define.specs.Tables.{memory, Shown, Does, Sizes, RealOf, WindowOf, WindowIn, SideIn};
-ghost use Rattle.define.specs.Stores.{outputIn, Inside, NodeOf, kept, storeStep, storeSteps, moved, New, ShownFrom, DoesFrom};
+ghost use Rattle.define.specs.Store.{kept, keyStored, WindowOf};
+ghost use Rattle.define.specs.Represents.{memory, Represented, Simulates};
+ghost use Rattle.define.specs.Lookups.{NodeOf, RealOf, New, WindowIn, WindowShown, ShownWindow, SideIn, Several};
 
-// The place of the next byte, the next step, how many steps of definitions are stored, and how many
-// clauses are written.
+// The place of the next byte, past the log's end where something did not fit; how many definitions are stored; the next step;
+// and how many clauses are written.
 pub struct Out {
-    pub cursor: Cursor,
+    pub at: usize,
+    pub marks: usize,
     pub step: u32,
-    pub stored: usize,
     pub clauses: u32,
 }
 
-// The output of a value; 0 for a value that the node has not.
-fn output(outputs: &[u32], node: usize, len: usize, value: usize) -> u32
-    requires { ⌜ (node < 319) × (len ≤ 64) × (length (now outputs) ≡ 20416) ⌝ }
-    ensures { λ r. ⌜ r ≡ outputIn (now (outputs .entry)) node len value ⌝ }
+// The place of a node's row in the store.
+pub fn store_at(node: usize) -> usize
+    requires { ⌜ node < 4294967296 ⌝ }
+    ensures { λ r. ⌜ r ≡ storeAt node ⌝ }
 {
-    if value == 0 {
-        return 0;
-    }
-    if len < value {
-        return 0;
-    }
-    outputs[64 * node + value - 1]
+    sizes::TRAIL + sizes::STORE_ROW * node
 }
 
-// The records of the real definition of a value: l is the leaf list, `literal` the output of the value.
-fn put_real(log: &mut [u8], c: Cursor, l: &[u32], value: usize, literal: u32) -> Cursor
-    requires { ⌜ (length (now l) ≤ 64) × (value ≤ 65) × (literal ≤ 2 ^ 30) ⌝ }
-    requires { ⌜ ((x : Node) × NodeOf (now l) value literal x) ⌝ }
-    ensures { λ r. ⌜ ((x : Node) → NodeOf (now (l .entry)) value literal x
-        → Puts (buffer (now (log .entry)) c) (flatMap numbers (realRecords x value)) (buffer (now (log .exit)) r)) ⌝ }
+// A sum with bound 0 and no witness, but for its list.
+fn bare() -> Sum
+    ensures { λ r. ⌜ r ≡ record { witness = 0; own = 0; literal = 0 } ⌝ }
+{
+    Sum {
+        witness: 0,
+        own: 0,
+        literal: 0,
+    }
+}
+
+// The records of the real definition of a value: l is the leaf list, `first` the output of value 1.
+fn put_real(l: &[u32], log: &mut [u8], at: usize, value: usize, first: u32) -> usize
+    requires { ⌜ (length (now l) ≤ width) × (value ≤ width + 1) × (first ≤ 2 ^ 30) ⌝ }
+    requires { ⌜ ((x : Node) × NodeOf (now l) first x) ⌝ }
+    ensures { λ r. ⌜ ((x : Node) → NodeOf (now (l .entry)) first x
+        → Puts (buffer (now (log .entry)) at) (flatMap numbers (realRecords x value)) (buffer (now (log .exit)) r)) ⌝ }
 {
     let n = l.len();
     if value == 0 {
-        return record::put_sum(log, c, 0, l, false, 0, 0);
+        return record::put_sum(log, at, l, false, bare());
     }
     if n < value {
-        return record::put_sum(log, c, 0, l, true, 0, 0);
+        return record::put_sum(log, at, l, true, bare());
     }
-    let d = record::put_sum(
-        log,
-        c,
-        literal + 1,
-        l,
-        true,
-        (n + 1 - value) as u32,
-        literal,
-    );
+    let literal = first + 2 * (value as u32 - 1);
+    let if_sum = Sum {
+        witness: literal + 1,
+        own: (n + 1 - value) as u32,
+        literal: literal,
+    };
+    let middle = record::put_sum(log, at, l, true, if_sum);
     let negated = pb::neg(literal);
-    record::put_sum(log, d, negated + 1, l, false, value as u32, negated)
+    let only_if_sum = Sum {
+        witness: negated + 1,
+        own: value as u32,
+        literal: negated,
+    };
+    record::put_sum(log, middle, l, false, only_if_sum)
 }
 
 // How many steps the real definition of a value has.
-fn count_real(len: usize, value: usize) -> u32
+pub fn count_real(len: usize, value: usize) -> u32
     ensures { λ r. ⌜ ((x : Node) → Rattle.totdb.specs.Nodes.len x ≡ len → r ≡ steps (realRecords x value)) ⌝ }
+    ensures { λ r. ⌜ r ≤ 2 ⌝ }
 {
     if value == 0 {
         return 1;
@@ -77,288 +87,173 @@ fn count_real(len: usize, value: usize) -> u32
     if len < value { 1 } else { 2 }
 }
 
-// The next step is one of a definition.
-fn store_step(steps: &mut [u32], o: Out) -> Out
-    ensures { λ r. ⌜ kept (now (steps .exit)) r ≡ storeStep (kept (now (steps .entry)) o) ⌝ }
+// The next `count` steps are those of the key at `slot`, whose records end at `at`.
+fn store_key(store: &mut [u32], o: Out, at: usize, slot: usize, count: u32) -> Out
+    requires { ⌜ (trail ≤ slot) × (slot < length (now store)) × (slot < 4294967296) × (count ≤ 65536) ⌝ }
+    ensures { λ r. ⌜ kept (now (store .exit)) r ≡ keyStored slot at count (kept (now (store .entry)) o) ⌝ }
 {
-    let c = o.cursor;
-    let k = o.stored;
-    let next = derivation::next_step(o.step);
-    if k < steps.len() {
-        steps[k] = o.step;
+    store[slot] = o.step;
+    let k = o.marks;
+    let step = derivation::step_after(o.step, count);
+    if k < sizes::TRAIL {
+        store[k] = slot as u32;
         return Out {
-            cursor: c,
-            step: next,
-            stored: k + 1,
+            at: at,
+            marks: k + 1,
+            step: step,
             clauses: o.clauses,
         };
     }
     Out {
-        cursor: c,
-        step: next,
-        stored: k,
+        at: at,
+        marks: k,
+        step: step,
         clauses: o.clauses,
     }
-}
-
-// The next `count` steps are those of the key at `slot`, whose records end at c.
-fn store(firsts: &mut [u32], steps: &mut [u32], o: Out, c: Cursor, slot: usize, count: u32) -> Out
-    requires { ⌜ slot < length (now firsts) ⌝ }
-    ensures { λ r. ⌜ (now (firsts .exit) ≡ set (now (firsts .entry)) slot (o .step))
-        × (kept (now (steps .exit)) r ≡ storeSteps count (kept (now (steps .entry)) (moved c o))) ⌝ }
-{
-    firsts[slot] = o.step;
-    let mut s = Out {
-        cursor: c,
-        step: o.step,
-        stored: o.stored,
-        clauses: o.clauses,
-    };
-    for i in 0..count {
-        s = store_step(steps, s);
-    }
-    s
 }
 
 // The real definition of a value of a node.
 pub fn look_up_real(
+    nodes: &[u32],
+    store: &mut [u32],
     log: &mut [u8],
-    firsts: &mut [u32],
-    steps: &mut [u32],
-    leaves: &[u32],
-    outputs: &[u32],
     o: Out,
     node: usize,
-    len: usize,
     value: usize,
 ) -> Out
-    requires { ⌜ Sizes (now firsts) (now steps) ⌝ }
-    requires { ⌜ ((h : List ℕ) × Shown (now leaves) (now outputs) (λ t. RealOf t node len value)
-        (memory h (now firsts) (now steps) (now log) o)) ⌝ }
-    ensures { λ r. ⌜ ((h : List ℕ) → Does (now (leaves .entry)) (now (outputs .entry)) (λ t. RealOf t node len value)
-        (λ t s. lookUp t (real node value) s)
-        (memory h (now (firsts .entry)) (now (steps .entry)) (now (log .entry)) o)
-        (memory h (now (firsts .exit)) (now (steps .exit)) (now (log .exit)) r)) ⌝ }
+    requires { ⌜ Represented (now nodes) (λ t s. RealOf t node value) (memory (now store) (now log) o) ⌝ }
+    ensures { λ r. ⌜ Simulates (now (nodes .entry)) (λ t s. RealOf t node value) (λ t s. lookUp t (real node value) s)
+        (memory (now (store .entry)) (now (log .entry)) o) (memory (now (store .exit)) (now (log .exit)) r) ⌝ }
 {
-    let slot = 68 * node + value;
-    let before = o.cursor;
-    if before.full {
+    if log.len() < o.at {
         return o;
     }
-    if firsts[slot] != 0 {
+    let slot = store_at(node) + value;
+    if store[slot] != 0 {
         return o;
     }
-    let literal = output(outputs, node, len, value);
-    let c = put_real(
+    let row = rows::row_at(node);
+    let len = rows::number_at(nodes, row);
+    let list = row + sizes::LIST;
+    let end = put_real(
+        &nodes[list..list + len],
         log,
-        before,
-        &leaves[64 * node..64 * node + len],
+        o.at,
         value,
-        literal,
+        nodes[row + sizes::FIRST],
     );
-    store(firsts, steps, o, c, slot, count_real(len, value))
+    store_key(store, o, end, slot, count_real(len, value))
 }
 
-// The sum of value 0 of a window.
-fn look_up_zero(
-    log: &mut [u8],
-    firsts: &mut [u32],
-    steps: &mut [u32],
-    outputs: &[u32],
-    o: Out,
-    node: usize,
-    offset: usize,
-    len: usize,
-) -> Out
-    requires { ⌜ Sizes (now firsts) (now steps) ⌝ }
-    requires { ⌜ Inside (now outputs) node offset len ⌝ }
-    requires { ⌜ ((h ls : List ℕ) × Shown ls (now outputs) (λ t. WindowOf t node offset len)
-        (memory h (now firsts) (now steps) (now log) o)) ⌝ }
-    ensures { λ r. ⌜ ((h ls : List ℕ) → Does ls (now (outputs .entry)) (λ t. WindowOf t node offset len)
-        (λ t s. lookUp t (window-zero node offset len) s)
-        (memory h (now (firsts .entry)) (now (steps .entry)) (now (log .entry)) o)
-        (memory h (now (firsts .exit)) (now (steps .exit)) (now (log .exit)) r)) ⌝ }
+// The sum of value 0 of a window, by the list of its outputs.
+fn look_up_zero(outputs: &[u32], store: &mut [u32], log: &mut [u8], o: Out, slot: usize) -> Out
+    requires { ⌜ Several (now outputs) ⌝ }
+    requires { ⌜ ((ns : List ℕ) × (n f m : ℕ) × Represented ns (λ t s. WindowIn t (now outputs) slot n f m) (memory (now store) (now log) o)) ⌝ }
+    ensures { λ r. ⌜ ((ns : List ℕ) (n f m : ℕ) → Simulates ns (λ t s. WindowIn t (now (outputs .entry)) slot n f m)
+        (λ t s. lookUp t (window-zero n f m) s)
+        (memory (now (store .entry)) (now (log .entry)) o) (memory (now (store .exit)) (now (log .exit)) r)) ⌝ }
 {
-    let slot = 68 * node + 66;
-    let before = o.cursor;
-    if before.full {
+    if log.len() < o.at {
         return o;
     }
-    if firsts[slot] != 0 {
+    if store[slot] != 0 {
         return o;
     }
-    let first = 64 * node + offset;
-    let c = record::put_sum(log, before, 0, &outputs[first..first + len], false, 0, 0);
-    store(firsts, steps, o, c, slot, 1)
+    let end = record::put_sum(log, o.at, outputs, false, bare());
+    store_key(store, o, end, slot, 1)
 }
 
 // The real definitions of the outputs of a window, ascending.
 fn look_up_reals(
+    nodes: &[u32],
+    store: &mut [u32],
     log: &mut [u8],
-    firsts: &mut [u32],
-    steps: &mut [u32],
-    leaves: &[u32],
-    outputs: &[u32],
     o: Out,
     node: usize,
-    node_len: usize,
     offset: usize,
     len: usize,
 ) -> Out
-    requires { ⌜ Sizes (now firsts) (now steps) ⌝ }
-    requires { ⌜ ((h : List ℕ) × Shown (now leaves) (now outputs) (λ t. WindowIn t node «node_len» offset len)
-        (memory h (now firsts) (now steps) (now log) o)) ⌝ }
-    ensures { λ r. ⌜ ((h : List ℕ) → Does (now (leaves .entry)) (now (outputs .entry)) (λ t. WindowIn t node «node_len» offset len)
+    requires { ⌜ Represented (now nodes) (λ t s. WindowOf t node offset len) (memory (now store) (now log) o) ⌝ }
+    ensures { λ r. ⌜ Simulates (now (nodes .entry)) (λ t s. WindowOf t node offset len)
         (λ t s. each (lookUp t) (windowReals node offset len) s)
-        (memory h (now (firsts .entry)) (now (steps .entry)) (now (log .entry)) o)
-        (memory h (now (firsts .exit)) (now (steps .exit)) (now (log .exit)) r)) ⌝ }
+        (memory (now (store .entry)) (now (log .entry)) o) (memory (now (store .exit)) (now (log .exit)) r) ⌝ }
 {
-    let mut s = o;
+    let mut p = o;
     for i in 0..len {
-        s = look_up_real(
-            log,
-            firsts,
-            steps,
-            leaves,
-            outputs,
-            s,
-            node,
-            node_len,
-            offset + i + 1,
-        );
+        p = look_up_real(nodes, store, log, p, node, offset + i + 1);
     }
-    s
+    p
 }
 
-// The rest of a window.
-fn define_window(
-    log: &mut [u8],
-    firsts: &mut [u32],
-    steps: &mut [u32],
-    outputs: &[u32],
-    o: Out,
-    node: usize,
-    offset: usize,
-    len: usize,
-) -> Out
-    requires { ⌜ Sizes (now firsts) (now steps) ⌝ }
-    requires { ⌜ Inside (now outputs) node offset len ⌝ }
-    requires { ⌜ ((h ls : List ℕ) × ShownFrom ls (now outputs)
-        (λ t s. WindowOf t node offset len × New (window node offset len) s)
-        (memory h (now firsts) (now steps) (now log) o)) ⌝ }
-    ensures { λ r. ⌜ ((h ls : List ℕ) → DoesFrom ls (now (outputs .entry))
-        (λ t s. WindowOf t node offset len × New (window node offset len) s)
-        (λ t s. define t (window node offset len) s)
-        (memory h (now (firsts .entry)) (now (steps .entry)) (now (log .entry)) o)
-        (memory h (now (firsts .exit)) (now (steps .exit)) (now (log .exit)) r)) ⌝ }
+// The rest of a window, by the output list of its node.
+fn define_window(outputs: &[u32], store: &mut [u32], log: &mut [u8], o: Out, s: Shown) -> Out
+    requires { ⌜ ((ns : List ℕ) × Represented ns (λ t u. WindowShown t (now outputs) s × New (window (s .side .node) (s .side .offset) (s .len)) u)
+        (memory (now store) (now log) o)) ⌝ }
+    ensures { λ r. ⌜ ((ns : List ℕ) → Simulates ns
+        (λ t u. WindowShown t (now (outputs .entry)) s × New (window (s .side .node) (s .side .offset) (s .len)) u)
+        (λ t u. define t (window (s .side .node) (s .side .offset) (s .len)) u)
+        (memory (now (store .entry)) (now (log .entry)) o) (memory (now (store .exit)) (now (log .exit)) r)) ⌝ }
 {
-    let before = o.cursor;
-    if before.full {
+    if log.len() < o.at {
         return o;
     }
-    let c = window::put_window(
-        log,
-        before,
-        firsts,
-        &outputs[64 * node..64 * node + 64],
-        node,
-        offset,
-        len,
-    );
-    store(firsts, steps, o, c, 68 * node + 67, 2 * len as u32 + 1)
-}
-
-// A window: the sum of value 0, the real definitions that are missing, then the rest.
-fn look_up_window(
-    log: &mut [u8],
-    firsts: &mut [u32],
-    steps: &mut [u32],
-    leaves: &[u32],
-    outputs: &[u32],
-    o: Out,
-    node: usize,
-    node_len: usize,
-    offset: usize,
-    len: usize,
-) -> Out
-    requires { ⌜ Sizes (now firsts) (now steps) ⌝ }
-    requires { ⌜ ((h : List ℕ) × Shown (now leaves) (now outputs) (λ t. WindowIn t node «node_len» offset len)
-        (memory h (now firsts) (now steps) (now log) o)) ⌝ }
-    ensures { λ r. ⌜ ((h : List ℕ) → Does (now (leaves .entry)) (now (outputs .entry)) (λ t. WindowIn t node «node_len» offset len)
-        (λ t s. lookUp t (window node offset len) s)
-        (memory h (now (firsts .entry)) (now (steps .entry)) (now (log .entry)) o)
-        (memory h (now (firsts .exit)) (now (steps .exit)) (now (log .exit)) r)) ⌝ }
-{
-    let before = o.cursor;
-    if before.full {
-        return o;
-    }
-    if firsts[68 * node + 67] != 0 {
-        return o;
-    }
-    let a = look_up_zero(log, firsts, steps, outputs, o, node, offset, len);
-    let b = look_up_reals(
-        log,
-        firsts,
-        steps,
-        leaves,
+    let side = s.side;
+    let len = s.len;
+    let row = store_at(side.node);
+    let end = window::put_window(
+        &store[row..row + sizes::LEFT_WINDOW],
         outputs,
-        a,
-        node,
-        node_len,
-        offset,
+        log,
+        o.at,
+        side.offset,
         len,
     );
-    define_window(log, firsts, steps, outputs, b, node, offset, len)
+    store_key(store, o, end, s.window + 1, 2 * len as u32 + 1)
+}
+
+// The window of the side at `at`: the sum of value 0, the real definitions that are missing, then the rest.
+fn look_up_window(nodes: &[u32], store: &mut [u32], log: &mut [u8], o: Out, s: Shown) -> Out
+    requires { ⌜ Represented (now nodes) (λ t u. ShownWindow t s) (memory (now store) (now log) o) ⌝ }
+    ensures { λ r. ⌜ Simulates (now (nodes .entry)) (λ t u. ShownWindow t s)
+        (λ t u. lookUp t (window (s .side .node) (s .side .offset) (s .len)) u)
+        (memory (now (store .entry)) (now (log .entry)) o) (memory (now (store .exit)) (now (log .exit)) r) ⌝ }
+{
+    if log.len() < o.at {
+        return o;
+    }
+    let slot = s.window;
+    if store[slot + 1] != 0 {
+        return o;
+    }
+    let side = s.side;
+    let from = side.offset;
+    let to = from + s.len;
+    let outputs = totdb::outputs(s.first, to);
+    let a = look_up_zero(&outputs[from..to], store, log, o, slot);
+    let b = look_up_reals(nodes, store, log, a, side.node, from, s.len);
+    define_window(&outputs, store, log, b, s)
 }
 
 // What the a-th value of a side looks up.
 pub fn look_up_side(
+    nodes: &[u32],
+    store: &mut [u32],
     log: &mut [u8],
-    firsts: &mut [u32],
-    steps: &mut [u32],
-    leaves: &[u32],
-    outputs: &[u32],
     o: Out,
-    s: Side,
-    node_len: usize,
+    s: Shown,
     a: usize,
 ) -> Out
-    requires { ⌜ Sizes (now firsts) (now steps) ⌝ }
-    requires { ⌜ ((h : List ℕ) × Shown (now leaves) (now outputs) (λ t. SideIn t s «node_len» a)
-        (memory h (now firsts) (now steps) (now log) o)) ⌝ }
-    ensures { λ r. ⌜ ((h : List ℕ) (d : Direction) → Does (now (leaves .entry)) (now (outputs .entry)) (λ t. SideIn t s «node_len» a)
-        (λ t u. each (lookUp t) (keyOf (sideDef t s a d)) u)
-        (memory h (now (firsts .entry)) (now (steps .entry)) (now (log .entry)) o)
-        (memory h (now (firsts .exit)) (now (steps .exit)) (now (log .exit)) r)) ⌝ }
+    requires { ⌜ Represented (now nodes) (λ t u. SideIn t s a) (memory (now store) (now log) o) ⌝ }
+    ensures { λ r. ⌜ ((d : Direction) → Simulates (now (nodes .entry)) (λ t u. SideIn t s a)
+        (λ t u. each (lookUp t) (keyOf (sideDef t (s .side) a d)) u)
+        (memory (now (store .entry)) (now (log .entry)) o) (memory (now (store .exit)) (now (log .exit)) r)) ⌝ }
 {
-    let len = s.len(node_len);
-    if len <= 1 {
+    if s.len <= 1 {
         return o;
     }
-    if s.is_plain() {
-        return look_up_real(
-            log,
-            firsts,
-            steps,
-            leaves,
-            outputs,
-            o,
-            s.node,
-            node_len,
-            s.key(a),
-        );
+    let side = s.side;
+    if side.is_plain() {
+        return look_up_real(nodes, store, log, o, side.node, side.key(a));
     }
-    look_up_window(
-        log,
-        firsts,
-        steps,
-        leaves,
-        outputs,
-        o,
-        s.node,
-        node_len,
-        s.offset,
-        len,
-    )
+    look_up_window(nodes, store, log, o, s)
 }

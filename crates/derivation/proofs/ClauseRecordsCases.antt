@@ -4,7 +4,7 @@ use mathlib.Core.List.{List, [], _∷_, _++_, map}
 use Prim.Native.Nat.{ℕ}
 use Rattle.record.specs.Record.{Record, clause, derivation, numbers, tokenNumbers}
 use Rattle.cert.specs.Definitions.{addSequence}
-use Rattle.derivation.specs.Operands.{part, stepTokens, tokens}
+use Rattle.derivation.specs.Operands.{part, stepTokens, tokens, clauseNumbers}
 use Rattle.derivation.specs.declared.Part.the-variants.{Absent, Literal}
 use Rattle.derivation.specs.declared.SemDefinition.the-variants.{None, Step, Axiom}
 
@@ -30,3 +30,8 @@ pub clause-records : map {B = List ℕ} numbers records
     ∷ []
 unfolding records numbers tokenNumbers
 clause-records = refl
+
+-- A clause with its step by its parts.
+pub clause-numbers : clauseNumbers (record { step = 9; left = Literal 1; right = Literal 3; output = 4 }) ≡ 3 ∷ 9 ∷ 3 ∷ 1 ∷ 3 ∷ 4 ∷ []
+unfolding clauseNumbers
+clause-numbers = refl

@@ -1,11 +1,14 @@
--- What the code is handed for a clause's two records: the definitions that its step adds up, and the parts of the clause.
+-- What the code is handed for a clause's two records: the definitions that its step adds up, and the clause by its parts.
 use mathlib.Core.Bool.{cond}
-use mathlib.Core.List.{List, [], _∷_}
+use mathlib.Core.List.{List, [], _∷_, _++_}
 use Prim.Native.Nat.{ℕ, _+_}
 use lib.Dec.{ltb}
+use Rattle.sizes.specs.Sizes.{stepStop}
 use Rattle.pb.specs.Rules.{Token, step, literal}
+use Rattle.record.specs.Record.{clause, numbers}
 use Rattle.cert.specs.Definitions.{Key, Definition, nothing, axiom-of, stored, addSequence}
 use Rattle.cert.specs.Requests.{stepSequence}
+use Rattle.derivation.specs.declared.Clause.{Clause}
 use Rattle.derivation.specs.declared.Part.{Part}
 use Rattle.derivation.specs.declared.Part.the-variants.{Absent, Literal}
 use Rattle.derivation.specs.declared.SemDefinition.{SemDefinition}
@@ -31,6 +34,15 @@ unfoldable pub part : Part → List ℕ
 part Absent = []
 part (Literal l) = l ∷ []
 
--- The step after n. It stops at a number that no log of 65,536 bytes reaches.
-unfoldable pub nextStep : ℕ → ℕ
-nextStep n = cond (ltb n 2000000) (n + 1) n
+-- The step k places after n. It stops at a number that no log reaches.
+unfoldable pub stepAfter : ℕ → ℕ → ℕ
+stepAfter n k = cond (ltb n stepStop) (n + k) n
+
+-- The step after n.
+abbrev pub nextStep : ℕ → ℕ
+nextStep n = stepAfter n 1
+
+-- A clause with its step: the parts that there are, then the output.
+unfoldable pub clauseNumbers : Clause → List ℕ
+unfolding numbers part
+clauseNumbers c = numbers (clause (c .step) (part (c .left) ++ part (c .right) ++ (c .output ∷ [])))

@@ -1,15 +1,14 @@
 // Writers of a clause's two records, the derivation of its step and the clause, and of a window's summands.
-use record::Cursor;
 ghost use mathlib.Core.Path.{_≡_};
 ghost use mathlib.Core.List.{[], _∷_, _++_};
 ghost use Prim.Native.Nat.{ℕ, _+_, _≤_};
 ghost use lib.ListN.{length};
 ghost use Rattle.pb.specs.Rules.{step, add, divide, saturate};
-ghost use Rattle.record.specs.Record.{clause, derivation, numbers, tokenNumbers};
+ghost use Rattle.record.specs.Record.{derivation, numbers, tokenNumbers};
 ghost use Rattle.record.specs.Writing.{buffer, Puts};
 ghost use Rattle.totdb.specs.Nodes.{Node, output};
 ghost use Rattle.cert.specs.Definitions.{Key, addSequence, ifPart, onlyIfPart, real};
-ghost use Rattle.derivation.specs.Operands.{nextStep, part, stepTokens, tokens};
+ghost use Rattle.derivation.specs.Operands.{stepAfter, nextStep, part, stepTokens, tokens, clauseNumbers};
 
 // A definition as a derivation adds it: nothing, the step that defines it, or a literal axiom.
 pub enum SemDefinition {
@@ -24,6 +23,17 @@ pub enum Part {
     Literal(u32),
 }
 
+// A clause with its step: the parts that there are, then the output.
+pub struct Clause {
+    pub step: u32,
+    pub left: Part,
+    pub right: Part,
+    pub output: u32,
+}
+
+// No clause takes more bytes with the derivation of its step: 17 numbers of five bytes.
+const CLAUSE_ROOM: usize = 85;
+
 // How many tokens a definition has.
 fn count_tokens(d: SemDefinition) -> u32
     ensures { λ r. ⌜ (r ≡ length (tokens d)) × (r ≤ 1) ⌝ }
@@ -32,29 +42,33 @@ fn count_tokens(d: SemDefinition) -> u32
 }
 
 // The tokens of a definition.
-fn put_definition(log: &mut [u8], c: Cursor, d: SemDefinition) -> Cursor
-    ensures { λ r. ⌜ Puts (buffer (now (log .entry)) c) (tokenNumbers (tokens d)) (buffer (now (log .exit)) r) ⌝ }
+fn push_definition(log: &mut [u8], at: usize, d: SemDefinition) -> usize
+    requires { ⌜ at + 10 ≤ length (now log) ⌝ }
+    ensures { λ r. ⌜ Puts (buffer (now (log .entry)) at) (tokenNumbers (tokens d)) (buffer (now (log .exit)) r) ⌝ }
+    ensures { λ r. ⌜ r ≤ at + 10 ⌝ }
 {
     if let SemDefinition::Step(n) = d {
-        let after_kind = record::put(log, c, 0);
-        return record::put(log, after_kind, n);
+        let after_kind = record::push(log, at, 0);
+        return record::push(log, after_kind, n);
     }
     let SemDefinition::Axiom(l) = d else {
-        return c;
+        return at;
     };
-    let after_kind = record::put(log, c, 1);
-    record::put(log, after_kind, l)
+    let after_kind = record::push(log, at, 1);
+    record::push(log, after_kind, l)
 }
 
 // The tokens of a definition and their addition to what stands before.
-fn put_added(log: &mut [u8], c: Cursor, d: SemDefinition) -> Cursor
-    ensures { λ r. ⌜ Puts (buffer (now (log .entry)) c) (tokenNumbers (addSequence [] (tokens d))) (buffer (now (log .exit)) r) ⌝ }
+fn push_added(log: &mut [u8], at: usize, d: SemDefinition) -> usize
+    requires { ⌜ at + 15 ≤ length (now log) ⌝ }
+    ensures { λ r. ⌜ Puts (buffer (now (log .entry)) at) (tokenNumbers (addSequence [] (tokens d))) (buffer (now (log .exit)) r) ⌝ }
+    ensures { λ r. ⌜ r ≤ at + 15 ⌝ }
 {
     if let SemDefinition::None = d {
-        return c;
+        return at;
     }
-    let after_tokens = put_definition(log, c, d);
-    record::put(log, after_tokens, 2)
+    let after_tokens = push_definition(log, at, d);
+    record::push(log, after_tokens, 2)
 }
 
 // How many tokens the derivation of a clause's step has.
@@ -65,21 +79,23 @@ fn count_step_tokens(this: SemDefinition, left: SemDefinition, right: SemDefinit
 }
 
 // The derivation of a clause's step: this definition, plus left, plus right, saturated.
-pub fn put_clause_step(
+fn push_step(
     log: &mut [u8],
-    c: Cursor,
+    at: usize,
     this: SemDefinition,
     left: SemDefinition,
     right: SemDefinition,
-) -> Cursor
-    ensures { λ r. ⌜ Puts (buffer (now (log .entry)) c) (numbers (derivation (stepTokens this left right))) (buffer (now (log .exit)) r) ⌝ }
+) -> usize
+    requires { ⌜ at + 55 ≤ length (now log) ⌝ }
+    ensures { λ r. ⌜ Puts (buffer (now (log .entry)) at) (numbers (derivation (stepTokens this left right))) (buffer (now (log .exit)) r) ⌝ }
+    ensures { λ r. ⌜ r ≤ at + 55 ⌝ }
 {
-    let after_kind = record::put(log, c, 2);
-    let after_count = record::put(log, after_kind, count_step_tokens(this, left, right));
-    let after_this = put_definition(log, after_count, this);
-    let after_left = put_added(log, after_this, left);
-    let after_right = put_added(log, after_left, right);
-    record::put(log, after_right, 4)
+    let after_kind = record::push(log, at, 2);
+    let after_count = record::push(log, after_kind, count_step_tokens(this, left, right));
+    let after_this = push_definition(log, after_count, this);
+    let after_left = push_added(log, after_this, left);
+    let after_right = push_added(log, after_left, right);
+    record::push(log, after_right, 4)
 }
 
 // How many literals a part has.
@@ -96,100 +112,165 @@ fn count_clause_literals(left: Part, right: Part) -> u32
     count_literals(left) + count_literals(right) + 1
 }
 
-fn put_part(log: &mut [u8], c: Cursor, p: Part) -> Cursor
-    ensures { λ r. ⌜ Puts (buffer (now (log .entry)) c) (part p) (buffer (now (log .exit)) r) ⌝ }
+fn push_part(log: &mut [u8], at: usize, p: Part) -> usize
+    requires { ⌜ at + 5 ≤ length (now log) ⌝ }
+    ensures { λ r. ⌜ Puts (buffer (now (log .entry)) at) (part p) (buffer (now (log .exit)) r) ⌝ }
+    ensures { λ r. ⌜ r ≤ at + 5 ⌝ }
 {
     let Part::Literal(l) = p else {
-        return c;
+        return at;
     };
-    record::put(log, c, l)
+    record::push(log, at, l)
 }
 
-// A clause with its step: the parts that there are, then the output.
-pub fn put_clause(
+// The clause.
+fn push_clause(log: &mut [u8], at: usize, c: Clause) -> usize
+    requires { ⌜ at + 30 ≤ length (now log) ⌝ }
+    ensures { λ r. ⌜ Puts (buffer (now (log .entry)) at) (clauseNumbers c) (buffer (now (log .exit)) r) ⌝ }
+    ensures { λ r. ⌜ r ≤ at + 30 ⌝ }
+{
+    let left = c.left;
+    let right = c.right;
+    let after_kind = record::push(log, at, 3);
+    let after_step = record::push(log, after_kind, c.step);
+    let after_count = record::push(log, after_step, count_clause_literals(left, right));
+    let after_left = push_part(log, after_count, left);
+    let after_right = push_part(log, after_left, right);
+    record::push(log, after_right, c.output)
+}
+
+// The two records of a clause, where there is room: the derivation of its step, then the clause.
+fn push_both(
     log: &mut [u8],
-    c: Cursor,
-    step: u32,
-    left: Part,
-    right: Part,
-    output: u32,
-) -> Cursor
-    ensures { λ r. ⌜ Puts (buffer (now (log .entry)) c)
-        (numbers (clause step (part left ++ part right ++ (output ∷ []))))
+    at: usize,
+    this: SemDefinition,
+    left: SemDefinition,
+    right: SemDefinition,
+    c: Clause,
+) -> usize
+    requires { ⌜ at + 85 ≤ length (now log) ⌝ }
+    ensures { λ r. ⌜ Puts (buffer (now (log .entry)) at)
+        (numbers (derivation (stepTokens this left right)) ++ clauseNumbers c)
+        (buffer (now (log .exit)) r) ⌝ }
+    ensures { λ r. ⌜ r ≤ at + 85 ⌝ }
+{
+    let middle = push_step(log, at, this, left, right);
+    push_clause(log, middle, c)
+}
+
+// The two records near the end of the log.
+fn put_last_clause(
+    log: &mut [u8],
+    at: usize,
+    this: SemDefinition,
+    left: SemDefinition,
+    right: SemDefinition,
+    c: Clause,
+) -> usize
+    ensures { λ r. ⌜ Puts (buffer (now (log .entry)) at)
+        (numbers (derivation (stepTokens this left right)) ++ clauseNumbers c)
         (buffer (now (log .exit)) r) ⌝ }
 {
-    let after_kind = record::put(log, c, 3);
-    let after_step = record::put(log, after_kind, step);
-    let after_count = record::put(log, after_step, count_clause_literals(left, right));
-    let after_left = put_part(log, after_count, left);
-    let after_right = put_part(log, after_left, right);
-    record::put(log, after_right, output)
+    let mut apart = [0u8; CLAUSE_ROOM];
+    let n = push_both(&mut apart, 0, this, left, right, c);
+    record::copy_out(log, at, &apart, n)
+}
+
+// The two records of a clause, whole or not at all.
+pub fn put_clause(
+    log: &mut [u8],
+    at: usize,
+    this: SemDefinition,
+    left: SemDefinition,
+    right: SemDefinition,
+    c: Clause,
+) -> usize
+    ensures { λ r. ⌜ Puts (buffer (now (log .entry)) at)
+        (numbers (derivation (stepTokens this left right)) ++ clauseNumbers c)
+        (buffer (now (log .exit)) r) ⌝ }
+{
+    if record::fits(log.len(), at, CLAUSE_ROOM) {
+        return push_both(log, at, this, left, right, c);
+    }
+    put_last_clause(log, at, this, left, right, c)
 }
 
 // The sum of two steps, divided and saturated.
-fn put_divided(log: &mut [u8], c: Cursor, this: u32, that: u32, divisor: u32) -> Cursor
-    ensures { λ r. ⌜ Puts (buffer (now (log .entry)) c)
+fn push_divided(log: &mut [u8], at: usize, this: u32, that: u32, divisor: u32) -> usize
+    requires { ⌜ at + 40 ≤ length (now log) ⌝ }
+    ensures { λ r. ⌜ Puts (buffer (now (log .entry)) at)
         (tokenNumbers (step this ∷ step that ∷ add ∷ divide divisor ∷ saturate ∷ []))
         (buffer (now (log .exit)) r) ⌝ }
+    ensures { λ r. ⌜ r ≤ at + 40 ⌝ }
 {
-    let after_this = put_definition(log, c, SemDefinition::Step(this));
-    let after_sum = put_added(log, after_this, SemDefinition::Step(that));
-    let after_kind = record::put(log, after_sum, 3);
-    let after_divisor = record::put(log, after_kind, divisor);
-    record::put(log, after_divisor, 4)
+    let after_this = push_definition(log, at, SemDefinition::Step(this));
+    let after_sum = push_added(log, after_this, SemDefinition::Step(that));
+    let after_kind = record::push(log, after_sum, 3);
+    let after_divisor = record::push(log, after_kind, divisor);
+    record::push(log, after_divisor, 4)
 }
 
 // The summand at s of the if of v: `this` is the real if of v, `that` the real only-if of s, `literal` the output of s.
-pub fn put_if_part(
+pub fn push_if_part(
     log: &mut [u8],
-    c: Cursor,
+    at: usize,
     v: u32,
     s: u32,
     this: u32,
     that: u32,
     literal: u32,
-) -> Cursor
-    requires { ⌜ s ≤ 64 ⌝ }
+) -> usize
+    requires { ⌜ (s ≤ 64) × (at + 40 ≤ length (now log)) ⌝ }
     ensures { λ r. ⌜ ((at-step : Key → ℕ → ℕ) (n : ℕ) (x : Node)
         → at-step (real n v) 0 ≡ this → at-step (real n s) 1 ≡ that → output x s ≡ literal
-        → Puts (buffer (now (log .entry)) c) (tokenNumbers (ifPart at-step n x v s)) (buffer (now (log .exit)) r)) ⌝ }
+        → Puts (buffer (now (log .entry)) at) (tokenNumbers (ifPart at-step n x v s)) (buffer (now (log .exit)) r)) ⌝ }
+    ensures { λ r. ⌜ r ≤ at + 40 ⌝ }
 {
     if s < v {
-        return put_definition(log, c, SemDefinition::Axiom(pb::neg(literal)));
+        return push_definition(log, at, SemDefinition::Axiom(pb::neg(literal)));
     }
     if v < s {
-        return put_divided(log, c, this, that, s - v + 1);
+        return push_divided(log, at, this, that, s - v + 1);
     }
-    c
+    at
 }
 
 // The summand at s of the only-if of v: `this` is the real only-if of v, `that` the real if of s, `literal` the output of s.
-pub fn put_only_if_part(
+pub fn push_only_if_part(
     log: &mut [u8],
-    c: Cursor,
+    at: usize,
     v: u32,
     s: u32,
     this: u32,
     that: u32,
     literal: u32,
-) -> Cursor
-    requires { ⌜ v ≤ 64 ⌝ }
+) -> usize
+    requires { ⌜ (v ≤ 64) × (at + 40 ≤ length (now log)) ⌝ }
     ensures { λ r. ⌜ ((at-step : Key → ℕ → ℕ) (n : ℕ) (x : Node)
         → at-step (real n v) 1 ≡ this → at-step (real n s) 0 ≡ that → output x s ≡ literal
-        → Puts (buffer (now (log .entry)) c) (tokenNumbers (onlyIfPart at-step n x v s)) (buffer (now (log .exit)) r)) ⌝ }
+        → Puts (buffer (now (log .entry)) at) (tokenNumbers (onlyIfPart at-step n x v s)) (buffer (now (log .exit)) r)) ⌝ }
+    ensures { λ r. ⌜ r ≤ at + 40 ⌝ }
 {
     if s < v {
-        return put_divided(log, c, this, that, v - s + 1);
+        return push_divided(log, at, this, that, v - s + 1);
     }
     if v < s {
-        return put_definition(log, c, SemDefinition::Axiom(literal));
+        return push_definition(log, at, SemDefinition::Axiom(literal));
     }
-    c
+    at
 }
 
-// The step after n. It stops at a number that no log of 65,536 bytes reaches.
+// The step k places after n. It stops at a number that no log reaches, so that the sum is a u32.
+pub fn step_after(n: u32, k: u32) -> u32
+    requires { ⌜ k ≤ 65536 ⌝ }
+    ensures { λ r. ⌜ r ≡ stepAfter n k ⌝ }
+{
+    if n < sizes::STEP_STOP { n + k } else { n }
+}
+
+// The step after n.
 pub fn next_step(n: u32) -> u32
     ensures { λ r. ⌜ r ≡ nextStep n ⌝ }
 {
-    if n < 2000000 { n + 1 } else { n }
+    step_after(n, 1)
 }

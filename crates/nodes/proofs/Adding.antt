@@ -1,87 +1,234 @@
--- The lists of the nodes with one more: the rows below stand, and the new node fits.
-use mathlib.Core.Path.{_≡_, _∙_}
-use mathlib.Core.Bool.{false}
-use mathlib.Core.Logic.{_≢_}
-use mathlib.Core.List.{List, [], _∷_, _++_}
-use Prim.Native.Nat.{ℕ, _+_, _*_, _^_, _≤_, _<_}
+-- The table with a leaf more, and with a join more.
+use mathlib.Core.Path.{_≡_, refl, sym, ap, _∙_}
+use mathlib.Core.Bool.{Bool, true, false, cond, _||_}
+use mathlib.Core.List.{List, [], _∷_, _++_, append-assoc}
+use Prim.Native.Nat.{ℕ, suc, _+_, _-_, _≤_, _<_}
 use native.Mathlib.Omega.{arith}
-use lib.ListN.{length, set, take, length-set}
-use lib.Seq.{paste, take-set-le, take-all, length-paste}
-use Rattle.totdb.specs.Nodes.{Node, leaf, join, at, len, leaves, output, outputs, range, taken}
+use lib.Dec.{eqb}
+use lib.ListN.{length, set, take, replicate, length-set, length-append, length-take, length-drop, length-replicate}
+use lib.Seq.{paste, length-paste, take-set-le, take-suc-set, take-append-seam, set-getD}
+use Rattle.sizes.specs.Sizes.{mostLeaves, width, row, rowAt, takenAt}
+use Rattle.totdb.specs.Nodes.{Node, leaf, join, at, len, leaves, output, sideLen, sideLeaves, joined, leafCount, isOver, taken}
 use Rattle.totdb.specs.declared.Side.{Side}
 use Rattle.cert.specs.Sized.{Fit}
-use Rattle.cert.proofs.Tables.{at-snoc, length-snoc, sized-snoc}
-use Rattle.define.specs.Tables.{Row, Lists}
-use Rattle.nodes.specs.Copied.{literalsFrom}
-use Rattle.nodes.proofs.Copying.{length-from}
-use Rattle.nodes.proofs.Parts.{part-kept, paste-below, paste-part, set-part, from-outputs}
-use Rattle.nodes.proofs.Sides.{Once, once-leaf, once-join}
+use Rattle.cert.proofs.Rules.{sideLen-more}
+use Rattle.cert.proofs.Tables.{at-last, length-snoc, side-some, taken-snoc}
+use Rattle.rows.specs.Windows.{left-at, right-at}
+use Rattle.rows.specs.Rows.{rowOf, KindOf, Row, leafLiterals, Bounded, Table}
+use Rattle.rows.proofs.Sides.{window-own}
+use Rattle.rows.proofs.Growing.{SidesOf, bounded-snoc, taken-last, table-snoc}
+use Rattle.nodes.specs.Added.{Leafable, Joinable, Sided, leafRow, joinRow}
+use Rattle.nodes.proofs.Placing.{put-below, put-start, put-here, leaf-kept, mark-other, marks-are}
+use Rattle.nodes.proofs.Literals.{side-count}
 
--- ---- rows
+-- ---- the leaves
 
-row-kept : (ls os ls′ os′ : List ℕ) (q n : ℕ) (x : Node) → take q ls′ ≡ take q ls → take q os′ ≡ take q os → 64 * n + 64 ≤ q → Row ls os n x
-    → Row ls′ os′ n x
-row-kept ls os ls′ os′ q n x same same′ h r =
-    let k : len x ≤ 64 = r .short in
-    record {
-      short = r .short;
-      leaf-list = part-kept q ls ls′ same (64 * n) (len x) (omega arith) ∙ r .leaf-list;
-      output-list = part-kept q os os′ same′ (64 * n) (len x) (omega arith) ∙ r .output-list;
-      low = r .low;
-    }
+count-leaf : (t : List Node) (l : ℕ) → leafCount (t ++ (leaf l ∷ [])) ≡ suc (leafCount t)
+unfolding leafCount
+count-leaf [] l = refl
+count-leaf (leaf m ∷ t) l = ap suc (count-leaf t l)
+count-leaf (join m o a b ∷ t) l = count-leaf t l
 
-lists-snoc : (ls os ls′ os′ : List ℕ) (t : List Node) (a : Node) → Lists ls os t → length t < 319 → length ls′ ≡ length ls
-    → length os′ ≡ length os → take (64 * length t) ls′ ≡ take (64 * length t) ls → take (64 * length t) os′ ≡ take (64 * length t) os
-    → Row ls′ os′ (length t) a → Fit t (length t) a → Once (t ++ (a ∷ [])) → Lists ls′ os′ (t ++ (a ∷ []))
-unfolding Once
-lists-snoc ls os ls′ os′ t a old h size size′ same same′ here fit once = record {
-  leaves-size = size ∙ old .leaves-size;
-  outputs-size = size′ ∙ old .outputs-size;
-  few = omega (arith, length-snoc t a);
-  row = at-snoc t a (λ n b. Row ls′ os′ n b)
-      (λ n k. row-kept ls os ls′ os′ (64 * length t) n (at t n) same same′ (omega arith) (old .row n k)) here;
-  sized = sized-snoc t a (old .sized) fit;
-  once = once;
-}
+literals-leaf : (t : List Node) (l : ℕ) → leafLiterals (t ++ (leaf l ∷ [])) ≡ leafLiterals t ++ (l ∷ [])
+unfolding leafLiterals
+literals-leaf [] l = refl
+literals-leaf (leaf m ∷ t) l = ap (λ (x : List ℕ). m ∷ x) (literals-leaf t l)
+literals-leaf (join m o a b ∷ t) l = literals-leaf t l
+
+same-join : (t : List Node) (m : List ℕ) (v : ℕ) (l r : Side)
+    → (leafCount (t ++ (join m v l r ∷ [])) ≡ leafCount t) × (leafLiterals (t ++ (join m v l r ∷ [])) ≡ leafLiterals t)
+unfolding leafCount leafLiterals
+same-join [] m v l r = (refl, refl)
+same-join (leaf a ∷ t) m v l r = let h = same-join t m v l r in (ap suc (h .0), ap (λ (x : List ℕ). a ∷ x) (h .1))
+same-join (join k o a b ∷ t) m v l r = same-join t m v l r
+
+-- ---- the row before, by what is under a join
+
+module _ {ns : List ℕ} {t : List Node} (tb : Table ns t) (i : ℕ) (h : i < length t) where
+  row-long : 3 < length (rowOf ns i)
+  row-long = simp (length-take, length-drop) (omega (arith, tb .has .room))
+
+  same-leaf : (l : ℕ) → rowOf ns i ≡ set (rowOf ns i) 3 (cond (taken (t ++ (leaf l ∷ [])) i) 1 0)
+  unfolding isOver
+  same-leaf l =
+      sym (set-getD (rowOf ns i) 3 0)
+      ∙ rw (tb .has .row i h .under, taken-snoc t (leaf l) i) (ap (λ (y : ℕ). set (rowOf ns i) 3 y) (by (taken t i)))
+    where
+      by : (b : Bool) → _≡_ {A = ℕ} (cond b 1 0) (cond (b || false) 1 0)
+      by true = refl
+      by false = refl
+
+  same-marks : (ms m : List ℕ) (v : ℕ) (l r : Side) → rowOf ms i ≡ rowOf ns i
+      → rowOf (set (set ms (takenAt (l .node)) 1) (takenAt (r .node)) 1) i ≡ set (rowOf ns i) 3 (cond (taken (t ++ (join m v l r ∷ [])) i) 1 0)
+  unfolding isOver
+  same-marks ms m v l r e =
+      marks-are ms (l .node) (r .node) i (rw e row-long)
+      ∙ rw (e, tb .has .row i h .under, taken-snoc t (join m v l r) i)
+      (ap (λ (y : ℕ). set (rowOf ns i) 3 y) (by (taken t i) (eqb (l .node) i) (eqb (r .node) i)))
+    where
+      by : (b c d : Bool) → _≡_ {A = ℕ} (cond d 1 (cond c 1 (cond b 1 0))) (cond (b || (c || d)) 1 0)
+      by true true true = refl
+      by true true false = refl
+      by true false true = refl
+      by true false false = refl
+      by false true true = refl
+      by false true false = refl
+      by false false true = refl
+      by false false false = refl
 
 -- ---- a leaf
 
-pub lists-leaf : (ls os : List ℕ) (t : List Node) (n l : ℕ) → Lists ls os t → length t ≡ n → n < 319 → l ≤ 2 ^ 30
-    → Lists (set ls (64 * n) l) (set os (64 * n) l) (t ++ (leaf l ∷ []))
-unfolding Fit len leaves output outputs range Once
-lists-leaf ls os t n l old e h k =
-    let p : 64 * n < length ls = omega (arith, old .leaves-size) in
-    let q : 64 * n < length os = omega (arith, old .outputs-size) in
-    lists-snoc ls os (set ls (64 * n) l) (set os (64 * n) l) t (leaf l) old (omega arith) (length-set ls (64 * n) l) (length-set os (64 * n) l)
-    (rw e (take-set-le (64 * n) ls (64 * n) l (omega arith))) (rw e (take-set-le (64 * n) os (64 * n) l (omega arith)))
-    (rw e (record { short = omega arith; leaf-list = set-part ls (64 * n) l p; output-list = set-part os (64 * n) l q; low = λ i a b. k })) tt
-    (once-leaf t l (old .once))
+module _ {ns : List ℕ} {t : List Node} {n k l : ℕ} (j : Leafable ns t n k l) where
+  abbrev with-leaf : List Node
+  with-leaf = t ++ (leaf l ∷ [])
+
+  bounded-leaf : Bounded with-leaf
+  unfolding len leaves output Fit SidesOf
+  bounded-leaf =
+      let next : length t ≡ n = j .next in
+      bounded-snoc t (leaf l) (j .table .bounded) (record {
+        few = omega (arith, j .room);
+        few-leaves = rw (count-leaf t l, j .leaves) (j .few);
+        short = omega arith;
+        low = λ i a b. j .low;
+        fit = tt;
+        free = tt;
+      })
+
+  row-leaf : Row (leafRow l) with-leaf (length t) (leaf l)
+  unfolding len leaves output KindOf
+  row-leaf = record {
+    length = refl;
+    first = refl;
+    kind = refl;
+    under = rw (taken-last t (leaf l) (bounded-leaf .sized));
+    list = refl;
+  }
+
+  pub table-leaf : rowAt (n + 1) ≤ length ns → Table (set (paste ns (rowAt n) (leafRow l) row) k l) with-leaf
+  table-leaf room =
+      let next : length t ≡ n = j .next in
+      let few : k < mostLeaves = j .few in
+      let inside : rowAt n + row ≤ length ns = omega arith in
+      let ms : List ℕ = paste ns (rowAt n) (leafRow l) row in
+      let long : length ms ≡ length ns = length-paste ns (rowAt n) (leafRow l) row inside (omega arith) in
+      table-snoc t (leaf l) (j .table .bounded) bounded-leaf ns (set ms k l) (j .table .has)
+      (omega (arith, length-set ms k l))
+      (λ i h. leaf-kept ms k l i few ∙ put-below ns n (leafRow l) inside i (omega arith) ∙ same-leaf (j .table) i h l)
+      (rw (leaf-kept ms k l (length t) few, next, put-here ns n (leafRow l) inside refl) (rw next at row-leaf))
+      (rw (count-leaf t l, literals-leaf t l, j .leaves, take-suc-set ms k l (omega arith), put-start ns n (leafRow l) inside k (omega arith))
+      (ap (λ (x : List ℕ). x ++ (l ∷ [])) (ap (λ (i : ℕ). take i ns) (sym (j .leaves)) ∙ j .table .has .leaves)))
 
 -- ---- a join
 
-pub lists-join : (ls os row : List ℕ) (t : List Node) (n : ℕ) (m : List ℕ) (o : ℕ) (l r : Side) → Lists ls os t → length t ≡ n → n < 319
-    → o ≤ 100000000 → length m ≤ 64 → length row ≡ 64 → take (length m) row ≡ m → Fit t n (join m o l r) → taken t (l .node) ≡ false
-    → taken t (r .node) ≡ false
-    → Lists (paste ls (64 * n) row (length m)) (paste os (64 * n) (literalsFrom o (length m)) (length m)) (t ++ (join m o l r ∷ []))
-unfolding Once Fit len leaves output
-lists-join ls os row t n m o l r old e h low short size is fit free free′ =
-    let p : 64 * n + length m ≤ length ls = omega (arith, old .leaves-size) in
-    let q : 64 * n + length m ≤ length os = omega (arith, old .outputs-size) in
-    let k : length m ≤ length row = omega arith in
-    let all : length m ≤ length new = omega (arith, length-from o (length m)) in
-    lists-snoc ls os (paste ls (64 * n) row (length m)) (paste os (64 * n) new (length m)) t (join m o l r) old (omega arith)
-    (length-paste ls (64 * n) row (length m) p k) (length-paste os (64 * n) new (length m) q all)
-    (rw e (paste-below ls (64 * n) row (length m) (omega arith))) (rw e (paste-below os (64 * n) new (length m) (omega arith)))
-    (rw e (record {
-      short = short;
-      leaf-list = paste-part ls (64 * n) row (length m) (omega arith) k ∙ is;
-      output-list = paste-part os (64 * n) new (length m) (omega arith) all ∙ take-all (length m) new (omega (arith, length-from o (length m)))
-          ∙ from-outputs m o l r (length m);
-      low = λ i a b. omega arith;
-    })) (rw e fit) (once-join t m o l r apart free free′ (old .once))
-  where
-    new : List ℕ
-    new = literalsFrom o (length m)
+module _ {ns : List ℕ} {t : List Node} {n v : ℕ} {l r : Side} (j : Joinable ns t n v l r) where
+  abbrev both : List ℕ
+  both = sideLeaves t l ++ sideLeaves t r
 
-    apart : l .node ≢ r .node
-    apart = fit .2
+  abbrev with-join : List Node
+  with-join = t ++ (join both v l r ∷ [])
+
+  abbrev new-row : List ℕ
+  new-row = joinRow n v l (sideLeaves t l) r (sideLeaves t r)
+
+  both-long : length both ≡ sideLen t l + sideLen t r
+  both-long = length-append (sideLeaves t l) (sideLeaves t r) ∙ rw (side-count t l, side-count t r)
+
+  -- The lengths that the code has of the two sides.
+  module _ {p q : ℕ} (e : p ≡ sideLen t l) (f : q ≡ sideLen t r) where
+    pub left-side : Sided ns t l p
+    left-side = record { table = j .table; there = j .left; length = e; some = j .left-some; inside = j .left-in }
+
+    pub right-side : Sided ns t r q
+    right-side = record { table = j .table; there = j .right; length = f; some = j .right-some; inside = j .right-in }
+
+    pub both-fit : p + q ≤ width
+    both-fit = omega (arith, j .short)
+
+    pub length-join : p + q ≡ len (joined t v l r)
+    unfolding joined len leaves
+    length-join = omega (arith, both-long)
+
+  bounded-join : Bounded with-join
+  unfolding len leaves output Fit SidesOf
+  bounded-join =
+      let next : length t ≡ n = j .next in
+      let short : length both ≤ width = omega (arith, both-long, j .short) in
+      bounded-snoc t (join both v l r) (j .table .bounded) (record {
+        few = omega (arith, j .room);
+        few-leaves = rw (same-join t both v l r .0) (j .table .bounded .few-leaves);
+        short = short;
+        low = λ i a b. omega (arith, j .low);
+        fit = (
+          j .left,
+          j .right,
+          j .apart,
+          j .left-in,
+          j .right-in,
+          both-long,
+          refl,
+          side-some t l (j .left-some),
+          side-some t r (j .right-some),
+        );
+        free = (j .left-free, j .right-free);
+      })
+
+  row-join : Row new-row with-join n (join both v l r)
+  unfolding len leaves output KindOf
+  row-join =
+      let next : length t ≡ n = j .next in
+      let here : n < length with-join = omega (arith, length-snoc t (join both v l r)) in
+      let is : at with-join n ≡ join both v l r = rw next at (at-last t (join both v l r)) in
+      record {
+        length = sym (length-append (sideLeaves t l) (sideLeaves t r));
+        first = omega arith;
+        kind = (
+          refl,
+          record {
+            is = refl;
+            length = side-count t l ∙ sideLen-more t (join both v l r ∷ []) l (j .left);
+            window = sym (window-own bounded-join (left-at n both v l r here is));
+          },
+          record {
+            is = refl;
+            length = side-count t r ∙ sideLen-more t (join both v l r ∷ []) r (j .right);
+            window = sym (window-own bounded-join (right-at n both v l r here is));
+          },
+        );
+        under = rw (rw next at (taken-last t (join both v l r) (bounded-join .sized)));
+        list = ap (take (length both)) (sym (append-assoc (sideLeaves t l) (sideLeaves t r) rest)) ∙ take-append-seam both rest;
+      }
+    where
+      rest : List ℕ
+      rest = replicate (width - length (sideLeaves t l) - length (sideLeaves t r)) 0
+
+  new-long : length new-row ≡ row
+  new-long =
+      simp (length-append, length-replicate {A = ℕ} (width - length (sideLeaves t l) - length (sideLeaves t r)) 0)
+      (omega (arith, side-count t l, side-count t r, j .short))
+
+  pub table-join : rowAt (n + 1) ≤ length ns
+      → Table (set (set (paste ns (rowAt n) new-row row) (takenAt (l .node)) 1) (takenAt (r .node)) 1) (t ++ (joined t v l r ∷ []))
+  unfolding joined
+  table-join room =
+      let next : length t ≡ n = j .next in
+      let inside : rowAt n + row ≤ length ns = omega arith in
+      let ms : List ℕ = paste ns (rowAt n) new-row row in
+      let first : List ℕ = set ms (takenAt (l .node)) 1 in
+      let long : length ms ≡ length ns = length-paste ns (rowAt n) new-row row inside (omega (arith, new-long)) in
+      let left : l .node < n = omega (arith, j .left) in
+      let right : r .node < n = omega (arith, j .right) in
+      let few : leafCount t ≤ mostLeaves = j .table .bounded .few-leaves in
+      table-snoc t (join both v l r) (j .table .bounded) bounded-join ns (set first (takenAt (r .node)) 1) (j .table .has)
+      (omega (arith, length-set first (takenAt (r .node)) 1, length-set ms (takenAt (l .node)) 1))
+      (λ i h. same-marks (j .table) i h ms both v l r (put-below ns n new-row inside i (omega arith)))
+      (rw (
+        next,
+        mark-other first (r .node) 1 n (λ e. omega arith),
+        mark-other ms (l .node) 1 n (λ e. omega arith),
+        put-here ns n new-row inside new-long,
+      ) row-join)
+      (rw (same-join t both v l r .0, same-join t both v l r .1)
+      (take-set-le (leafCount t) first (takenAt (r .node)) 1 (omega arith)
+      ∙ take-set-le (leafCount t) ms (takenAt (l .node)) 1 (omega arith)
+      ∙ put-start ns n new-row inside (leafCount t) (omega arith) ∙ j .table .has .leaves))

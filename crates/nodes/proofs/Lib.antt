@@ -1,8 +1,7 @@
--- Laws of the tables of the nodes.
-pub mod Sides
-pub mod Adding
+-- Laws of the table of the nodes.
 pub mod Copying
 pub mod Having
-pub mod Joining
-pub mod Parts
 pub mod Placing
+pub mod Literals
+pub mod Adding
+pub mod Joining

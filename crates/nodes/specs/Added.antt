@@ -1,26 +1,29 @@
--- What a node is added to.
+-- What a node is added to, and the row of a new node.
 use mathlib.Core.Path.{_≡_}
 use mathlib.Core.Bool.{false}
 use mathlib.Core.Logic.{_≢_}
-use mathlib.Core.List.{List}
-use Prim.Native.Nat.{ℕ, _+_, _≤_, _<_}
-use lib.ListN.{length}
-use Rattle.totdb.specs.Nodes.{Node, at, len, sideLen, taken}
+use mathlib.Core.List.{List, [], _∷_, _++_}
+use Prim.Native.Nat.{ℕ, _+_, _-_, _*_, _^_, _≤_, _<_}
+use lib.ListN.{length, replicate}
+use Rattle.sizes.specs.Sizes.{mostLeaves, mostNodes, width, leftWindow, rightWindow}
+use Rattle.totdb.specs.Nodes.{Node, at, len, sideLen, leafCount, taken}
 use Rattle.totdb.specs.declared.Side.{Side}
-use Rattle.define.specs.Tables.{Lists}
-use Rattle.request.specs.Rows.{Rows}
+use Rattle.rows.specs.Rows.{Table}
 
-pub record Sizes (ns ls os : List ℕ) : Type 0 where
-  pub nodes-size : length ns ≡ 2552
-  pub leaves-size : length ls ≡ 20416
-  pub outputs-size : length os ≡ 20416
-
--- Two sides that pass questions 8 to 10, with room in the tables for their join as node n. `low` keeps its output literals below 2 ^ 30.
-pub record Joinable (ns ls os : List ℕ) (t : List Node) (n variable : ℕ) (l r : Side) : Type 0 where
-  pub rows : Rows ns t
-  pub lists : Lists ls os t
+-- Room for a leaf as node n and as leaf k.
+pub record Leafable (ns : List ℕ) (t : List Node) (n k literal : ℕ) : Type 0 where
+  pub table : Table ns t
   pub next : length t ≡ n
-  pub room : n < 319
+  pub leaves : leafCount t ≡ k
+  pub few : k < mostLeaves
+  pub room : n < mostNodes
+  pub low : literal ≤ 2 ^ 30
+
+-- Two sides that pass questions 8 to 10, with room for their join as node n. `low` keeps its output literals below 2 ^ 30.
+pub record Joinable (ns : List ℕ) (t : List Node) (n variable : ℕ) (l r : Side) : Type 0 where
+  pub table : Table ns t
+  pub next : length t ≡ n
+  pub room : n < mostNodes
   pub left : l .node < length t
   pub right : r .node < length t
   pub apart : l .node ≢ r .node
@@ -30,5 +33,34 @@ pub record Joinable (ns ls os : List ℕ) (t : List Node) (n variable : ℕ) (l 
   pub right-some : r .offset < len (at t (r .node))
   pub left-in : l .offset + sideLen t l ≤ len (at t (l .node))
   pub right-in : r .offset + sideLen t r ≤ len (at t (r .node))
-  pub short : sideLen t l + sideLen t r ≤ 64
+  pub short : sideLen t l + sideLen t r ≤ width
   pub low : variable ≤ 100000000
+
+-- A side over a node of the table, with its length k.
+pub record Sided (ns : List ℕ) (t : List Node) (s : Side) (k : ℕ) : Type 0 where
+  pub table : Table ns t
+  pub there : s .node < length t
+  pub length : k ≡ sideLen t s
+  pub some : s .offset < len (at t (s .node))
+  pub inside : s .offset + sideLen t s ≤ len (at t (s .node))
+
+-- A side's numbers, as a row holds them.
+pub record Small (s : Side) : Type 0 where
+  pub node : s .node < mostNodes
+  pub offset : s .offset ≤ width
+  pub limit : s .limit ≤ width
+
+-- ---- rows
+
+abbrev pub leafRow : ℕ → List ℕ
+leafRow l = 1 ∷ l ∷ 0 ∷ 0 ∷ (replicate 10 0 ++ (l ∷ replicate 63 0))
+
+-- A side's numbers: with its length, and the place of its window's first steps.
+abbrev pub sideRow : Side → ℕ → ℕ → List ℕ
+sideRow s k w = s .node ∷ s .offset ∷ s .limit ∷ k ∷ w ∷ []
+
+-- The row of the join n of two sides with literals a and b, and outputs from the variable v up.
+abbrev pub joinRow : ℕ → ℕ → Side → List ℕ → Side → List ℕ → List ℕ
+joinRow n v l a r b =
+    (length a + length b) ∷ (2 * v) ∷ 1 ∷ 0 ∷ (sideRow l (length a) (leftWindow n) ++ (sideRow r (length b) (rightWindow n)
+    ++ (a ++ (b ++ replicate (width - length a - length b) 0))))

@@ -1,144 +1,181 @@
-// The tables of the nodes: what they have, and a leaf or a join added to them.
+// The table of the nodes: what it has, and a leaf or a join added to it.
 use totdb::Side;
 ghost use mathlib.Core.Path.{_≡_};
 ghost use mathlib.Core.List.{List, [], _∷_, _++_};
-ghost use Prim.Native.Nat.{ℕ, _+_, _*_, _^_, _≤_, _<_};
-ghost use lib.ListN.{length};
+ghost use Prim.Native.Nat.{_+_, _≤_, _<_};
+ghost use lib.ListN.{length, set};
 ghost use lib.Seq.{paste, sets};
-ghost use Rattle.totdb.specs.Nodes.{Node, leaf, len, joined, lengthOver};
-ghost use Rattle.define.specs.Tables.{Lists};
-ghost use Rattle.request.specs.Rows.{Rows};
-ghost use Rattle.nodes.specs.Added.{Sizes, Joinable};
-ghost use Rattle.nodes.specs.Copied.{literalsIn, literalsFrom, sideRow, joinRow, Copyable, Small};
+ghost use Rattle.sizes.specs.Sizes.{row, rowAt, takenAt, width, mostNodes};
+ghost use Rattle.totdb.specs.Nodes.{Node, leaf, at, len, joined, part, plainOr, sideLen, sideLeaves, leafCount};
+ghost use Rattle.rows.specs.Rows.{Table};
+ghost use Rattle.nodes.specs.Added.{Leafable, Joinable, Sided, Small, leafRow, sideRow, joinRow};
 
-// A leaf of the table has the literal.
-pub fn known(nodes: &[u32], leaves: &[u32], count: usize, literal: u32) -> bool
-    requires { ⌜ (length (now nodes) ≡ 2552) × (length (now leaves) ≡ 20416) × (count ≤ 319) ⌝ }
-    requires { ⌜ ((os : List ℕ) × (t : List Node) × Rows (now nodes) t × Lists (now leaves) os t × (length t ≡ count)) ⌝ }
-    ensures { λ r. ⌜ ((os : List ℕ) (t : List Node) → Rows (now (nodes .entry)) t → Lists (now (leaves .entry)) os t → length t ≡ count
-        → r ≡ Rattle.totdb.specs.Nodes.known t literal) ⌝ }
+// A leaf has the literal. `count` is the number of leaves.
+pub fn known(nodes: &[u32], count: usize, literal: u32) -> bool
+    requires { ⌜ ((t : List Node) × Table (now nodes) t × (leafCount t ≡ count)) ⌝ }
+    ensures { λ r. ⌜ ((t : List Node) → Table (now (nodes .entry)) t → leafCount t ≡ count → r ≡ Rattle.totdb.specs.Nodes.known t literal) ⌝ }
 {
-    for n in 0..count {
-        if nodes[8 * n + 7] == 0 && leaves[64 * n] == literal {
+    for i in 0..count {
+        if nodes[i] == literal {
             return true;
         }
     }
     false
 }
 
-// A node stands under a join of the table.
-pub fn taken(nodes: &[u32], count: usize, node: usize) -> bool
-    requires { ⌜ (length (now nodes) ≡ 2552) × (count ≤ 319) ⌝ }
-    requires { ⌜ ((t : List Node) × Rows (now nodes) t × (length t ≡ count)) ⌝ }
-    ensures { λ r. ⌜ ((t : List Node) → Rows (now (nodes .entry)) t → length t ≡ count → r ≡ Rattle.totdb.specs.Nodes.taken t node) ⌝ }
+// A node stands under a join.
+pub fn taken(nodes: &[u32], node: usize) -> bool
+    requires { ⌜ ((t : List Node) × Table (now nodes) t × (node < length t)) ⌝ }
+    ensures { λ r. ⌜ ((t : List Node) → Table (now (nodes .entry)) t → node < length t → r ≡ Rattle.totdb.specs.Nodes.taken t node) ⌝ }
 {
-    for n in 0..count {
-        if nodes[8 * n + 7] == 1
-            && (nodes[8 * n + 1] as usize == node || nodes[8 * n + 4] as usize == node)
-        {
-            return true;
-        }
+    let row = rows::row_at(node);
+    nodes[row + sizes::TAKEN] != 0
+}
+
+// The length of a node.
+pub fn len(nodes: &[u32], node: usize) -> usize
+    requires { ⌜ ((t : List Node) × Table (now nodes) t × (node < length t)) ⌝ }
+    ensures { λ r. ⌜ ((t : List Node) → Table (now (nodes .entry)) t → node < length t → r ≡ len (at t node)) ⌝ }
+{
+    rows::number_at(nodes, rows::row_at(node))
+}
+
+// A row that was made apart.
+fn put_row(nodes: &mut [u32], node: usize, r: &[u32; sizes::ROW])
+    requires { ⌜ (node < 4294967296) × (rowAt node + row ≤ length (now nodes)) × (length (now r) ≡ row) ⌝ }
+    ensures { λ _. ⌜ now (nodes .exit) ≡ paste (now (nodes .entry)) (rowAt node) (now (r .entry)) row ⌝ }
+{
+    let at = rows::row_at(node);
+    for i in 0..sizes::ROW {
+        nodes[at + i] = r[i];
     }
-    false
 }
 
-// A leaf, as node n.
-pub fn add_leaf(nodes: &mut [u32], leaves: &mut [u32], outputs: &mut [u32], n: usize, literal: u32)
-    requires { ⌜ Sizes (now nodes) (now leaves) (now outputs) × (n < 319) ⌝ }
-    requires { ⌜ ((t : List Node) × Rows (now nodes) t × Lists (now leaves) (now outputs) t × (length t ≡ n) × (literal ≤ 2 ^ 30)) ⌝ }
-    ensures { λ _. ⌜ ((t : List Node) → Rows (now (nodes .entry)) t → Lists (now (leaves .entry)) (now (outputs .entry)) t → length t ≡ n → literal ≤ 2 ^ 30
-        → Rows (now (nodes .exit)) (t ++ (leaf literal ∷ [])) × Lists (now (leaves .exit)) (now (outputs .exit)) (t ++ (leaf literal ∷ []))) ⌝ }
+// The row of a leaf.
+fn leaf_row(literal: u32) -> [u32; sizes::ROW]
+    ensures { λ r. ⌜ r ≡ leafRow literal ⌝ }
 {
-    nodes[8 * n] = 1;
-    nodes[8 * n + 7] = 0;
-    leaves[64 * n] = literal;
-    outputs[64 * n] = literal;
+    let mut r = [0u32; sizes::ROW];
+    r[sizes::LEN] = 1;
+    r[sizes::FIRST] = literal;
+    r[sizes::LIST] = literal;
+    r
 }
 
-// Appends a side's literals to the first `at` of a row.
+// A leaf, as node n and as leaf k.
+pub fn add_leaf(nodes: &mut [u32], n: usize, k: usize, literal: u32)
+    requires { ⌜ rowAt (n + 1) ≤ length (now nodes) ⌝ }
+    requires { ⌜ ((t : List Node) × Leafable (now nodes) t n k literal) ⌝ }
+    ensures { λ _. ⌜ ((t : List Node) → Leafable (now (nodes .entry)) t n k literal → Table (now (nodes .exit)) (t ++ (leaf literal ∷ []))) ⌝ }
+{
+    let r = leaf_row(literal);
+    put_row(nodes, n, &r);
+    nodes[k] = literal;
+}
+
+// The length of a side.
+fn side_len(nodes: &[u32], s: Side) -> usize
+    requires { ⌜ ((t : List Node) × Table (now nodes) t × (s .node < length t)) ⌝ }
+    ensures { λ r. ⌜ ((t : List Node) → Table (now (nodes .entry)) t → s .node < length t → r ≡ sideLen t s) ⌝ }
+{
+    s.len(len(nodes, s.node))
+}
+
+// A side's literals, to a row from `at` on.
 fn copy_side<'a>(
-    leaves: &'a [u32],
-    outputs: &'a [u32],
-    row: &mut [u32],
+    leaf_list: &'a [u32],
+    output_list: &'a [u32],
+    r: &mut [u32],
     at: usize,
     s: Side,
-    node_len: usize,
-) -> usize
-    requires { ⌜ Copyable (now leaves) (now outputs) (now row) at s «node_len» ⌝ }
-    ensures { λ r. ⌜ (r ≡ at + lengthOver s «node_len») × (length (now (row .exit)) ≡ 64)
-        × (now (row .exit) ≡ paste (now (row .entry)) at (literalsIn (now (leaves .entry)) (now (outputs .entry)) s «node_len») (lengthOver s «node_len»)) ⌝ }
+    len: usize,
+)
+    requires { ⌜ (length (now «leaf_list») ≡ width) × (length (now «output_list») ≡ width) ⌝ }
+    requires { ⌜ (s .offset + len ≤ width) × (at + len ≤ length (now r)) ⌝ }
+    ensures { λ _. ⌜ now (r .exit) ≡ paste (now (r .entry)) at
+        (part (plainOr (s .offset) (s .limit) (now («leaf_list» .entry)) (now («output_list» .entry))) (s .offset) len) len ⌝ }
 {
-    let len = s.len(node_len);
-    let l = totdb::literals(leaves, outputs, s.is_plain(), 64 * s.node + s.offset, len);
+    let l = totdb::literals(leaf_list, output_list, s.is_plain(), s.offset, len);
     for i in 0..len {
-        row[at + i] = l[i];
-    }
-    at + len
-}
-
-// The first `len` literals of a row, as the leaf list of a node.
-fn copy_row(leaves: &mut [u32], node: usize, row: &[u32], len: usize)
-    requires { ⌜ (length (now leaves) ≡ 20416) × (length (now row) ≡ 64) × (node < 319) × (len ≤ 64) ⌝ }
-    ensures { λ _. ⌜ now (leaves .exit) ≡ paste (now (leaves .entry)) (64 * node) (now (row .entry)) len ⌝ }
-{
-    for i in 0..len {
-        leaves[64 * node + i] = row[i];
+        r[at + i] = l[i];
     }
 }
 
-// The outputs of a join, on the variables from `variable` up.
-fn reserve(outputs: &mut [u32], node: usize, variable: u32, len: usize)
-    requires { ⌜ (length (now outputs) ≡ 20416) × (node < 319) × (variable ≤ 100000000) × (len ≤ 64) ⌝ }
-    ensures { λ _. ⌜ now (outputs .exit) ≡ paste (now (outputs .entry)) (64 * node) (literalsFrom variable len) len ⌝ }
+// The same, from the lists of its node.
+fn append_side(nodes: &mut [u32], r: &mut [u32], at: usize, s: Side, len: usize)
+    requires { ⌜ at + len ≤ length (now r) ⌝ }
+    requires { ⌜ ((t : List Node) × Sided (now nodes) t s len) ⌝ }
+    ensures { λ _. ⌜ now (nodes .exit) ≡ now (nodes .entry) ⌝ }
+    ensures { λ _. ⌜ ((t : List Node) → Sided (now (nodes .entry)) t s len → now (r .exit) ≡ paste (now (r .entry)) at (sideLeaves t s) len) ⌝ }
 {
-    for i in 0..len {
-        outputs[64 * node + i] = 2 * (variable + i as u32);
-    }
+    let node = rows::row_at(s.node);
+    let first = nodes[node + sizes::FIRST];
+    let outputs = totdb::outputs(first, rows::number_at(nodes, node));
+    let list = node + sizes::LIST;
+    copy_side(&nodes[list..list + sizes::WIDTH], &outputs, r, at, s, len);
 }
 
 // A side's numbers, from `at` on.
-fn put_side(nodes: &mut [u32], at: usize, s: Side)
-    requires { ⌜ (length (now nodes) ≡ 2552) × (at + 3 ≤ 2552) × Small s ⌝ }
-    ensures { λ _. ⌜ (length (now (nodes .exit)) ≡ 2552) × (now (nodes .exit) ≡ sets (now (nodes .entry)) at (sideRow s)) ⌝ }
+fn put_side(r: &mut [u32], at: usize, s: Side, len: usize, window: usize)
+    requires { ⌜ (at + 5 ≤ length (now r)) × Small s × (len ≤ width) × (window < 4294967296) ⌝ }
+    ensures { λ _. ⌜ now (r .exit) ≡ sets (now (r .entry)) at (sideRow s len window) ⌝ }
 {
-    nodes[at] = s.node as u32;
-    nodes[at + 1] = s.offset as u32;
-    nodes[at + 2] = s.limit as u32;
+    r[at] = s.node as u32;
+    r[at + 1] = s.offset as u32;
+    r[at + 2] = s.limit as u32;
+    r[at + sizes::SIDE_LEN] = len as u32;
+    r[at + sizes::SIDE_WINDOW] = window as u32;
 }
 
-// A join's row of the table of the nodes.
-fn put_join(nodes: &mut [u32], node: usize, len: usize, l: Side, r: Side)
-    requires { ⌜ (length (now nodes) ≡ 2552) × (node < 319) × (len ≤ 64) × Small l × Small r ⌝ }
-    ensures { λ _. ⌜ now (nodes .exit) ≡ sets (now (nodes .entry)) (8 * node) (joinRow len l r) ⌝ }
-{
-    nodes[8 * node] = len as u32;
-    put_side(nodes, 8 * node + 1, l);
-    put_side(nodes, 8 * node + 4, r);
-    nodes[8 * node + 7] = 1;
-}
-
-// A join of two sides, as node n, its outputs on the variables from `variable` up. Its length.
-pub fn add_join(
+// The row of the join n of two sides.
+fn join_row(
     nodes: &mut [u32],
-    leaves: &mut [u32],
-    outputs: &mut [u32],
     n: usize,
     variable: u32,
     l: Side,
+    l_len: usize,
     r: Side,
-) -> usize
-    requires { ⌜ ((t : List Node) × Joinable (now nodes) (now leaves) (now outputs) t n variable l r) ⌝ }
-    ensures { λ e. ⌜ ((t : List Node) → Joinable (now (nodes .entry)) (now (leaves .entry)) (now (outputs .entry)) t n variable l r
-        → (e ≡ len (joined t variable l r)) × Rows (now (nodes .exit)) (t ++ (joined t variable l r ∷ []))
-        × Lists (now (leaves .exit)) (now (outputs .exit)) (t ++ (joined t variable l r ∷ []))) ⌝ }
+    r_len: usize,
+) -> [u32; sizes::ROW]
+    requires { ⌜ (n < mostNodes) × (variable ≤ 100000000) × («l_len» + «r_len» ≤ width) ⌝ }
+    requires { ⌜ ((t : List Node) × Sided (now nodes) t l «l_len» × Sided (now nodes) t r «r_len») ⌝ }
+    ensures { λ _. ⌜ now (nodes .exit) ≡ now (nodes .entry) ⌝ }
+    ensures { λ e. ⌜ ((t : List Node) → Sided (now (nodes .entry)) t l «l_len» → Sided (now (nodes .entry)) t r «r_len»
+        → e ≡ joinRow n variable l (sideLeaves t l) r (sideLeaves t r)) ⌝ }
 {
-    let l_len = nodes[8 * l.node] as usize;
-    let r_len = nodes[8 * r.node] as usize;
-    let mut row = [0u32; 64];
-    let middle = copy_side(leaves, outputs, &mut row, 0, l, l_len);
-    let len = copy_side(leaves, outputs, &mut row, middle, r, r_len);
-    copy_row(leaves, n, &row, len);
-    reserve(outputs, n, variable, len);
-    put_join(nodes, n, len, l, r);
-    len
+    let mut row = [0u32; sizes::ROW];
+    append_side(nodes, &mut row, sizes::LIST, l, l_len);
+    append_side(nodes, &mut row, sizes::LIST + l_len, r, r_len);
+    row[sizes::LEN] = (l_len + r_len) as u32;
+    row[sizes::FIRST] = 2 * variable;
+    row[sizes::KIND] = 1;
+    let base = sizes::TRAIL + sizes::STORE_ROW * n;
+    put_side(&mut row, sizes::LEFT, l, l_len, base + sizes::LEFT_WINDOW);
+    put_side(&mut row, sizes::RIGHT, r, r_len, base + sizes::RIGHT_WINDOW);
+    row
+}
+
+// A node stands under a join from now on.
+fn mark(nodes: &mut [u32], node: usize)
+    requires { ⌜ (node < 4294967296) × (rowAt node + row ≤ length (now nodes)) ⌝ }
+    ensures { λ _. ⌜ now (nodes .exit) ≡ set (now (nodes .entry)) (takenAt node) 1 ⌝ }
+{
+    let row = rows::row_at(node);
+    nodes[row + sizes::TAKEN] = 1;
+}
+
+// A join of two sides, as node n, its outputs on the variables from `variable` up. Its length.
+pub fn add_join(nodes: &mut [u32], n: usize, variable: u32, l: Side, r: Side) -> usize
+    requires { ⌜ rowAt (n + 1) ≤ length (now nodes) ⌝ }
+    requires { ⌜ ((t : List Node) × Joinable (now nodes) t n variable l r) ⌝ }
+    ensures { λ e. ⌜ ((t : List Node) → Joinable (now (nodes .entry)) t n variable l r
+        → (e ≡ len (joined t variable l r)) × Table (now (nodes .exit)) (t ++ (joined t variable l r ∷ []))) ⌝ }
+{
+    let l_len = side_len(nodes, l);
+    let r_len = side_len(nodes, r);
+    let row = join_row(nodes, n, variable, l, l_len, r, r_len);
+    put_row(nodes, n, &row);
+    mark(nodes, l.node);
+    mark(nodes, r.node);
+    l_len + r_len
 }

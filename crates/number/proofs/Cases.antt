@@ -4,19 +4,16 @@ use mathlib.Core.List.{List, [], _∷_, _++_, map}
 use Prim.Native.Nat.{ℕ, _+_, _≤_, _<_, _^_}
 use native.Mathlib.Omega.{arith}
 use lib.ListN.{length}
-use Rattle.number.specs.Number.{groups, encodeIn, encode, Front, number, bad, above, readIn, read, placed, readAt, written, writtenAt, readRefusal, writtenRefusal}
+use Rattle.number.specs.Number.{groups, encodeIn, encode, Front, number, bad, above, readIn, read, placed, readAt, written, readRefusal}
 use Rattle.number.specs.declared.Reading.{Reading}
 use Rattle.number.specs.declared.Reading.the-variants.{Number, Bad}
-use Rattle.number.specs.declared.Written.{Written}
-use Rattle.number.specs.declared.Written.the-variants.{End, Full}
 use Rattle.number.proofs.Laws.{encode-last, encode-more, encode-length, encode-bytes, read-encode, read-number}
-use Rattle.number.proofs.Places.{readFrom-number, readFrom-length, written-full, readAt-written}
+use Rattle.number.proofs.Places.{readFrom-number, readFrom-length, readAt-written}
 
 pub data Value : Type 0 where
   front : Front → Value
   place : Reading → ℕ → Value
   bytes : List ℕ → Value
-  log : Written → ℕ → List ℕ → Value
 
 pub record Case : Type 0 where
   pub got : Value
@@ -31,8 +28,8 @@ reads-at s at r refusal = record { got = place (readAt s at) (readRefusal (readA
 encodes : ℕ → List ℕ → Case
 encodes x bs = record { got = bytes (encode x); want = bytes bs }
 
-writes : List ℕ → ℕ → ℕ → Written → ℕ → List ℕ → Case
-writes s at x r refusal after = record { got = log (writtenAt s at x) (writtenRefusal (writtenAt s at x)) (written s at x); want = log r refusal after }
+writes : List ℕ → ℕ → ℕ → List ℕ → Case
+writes s at x after = record { got = bytes (written s at x); want = bytes after }
 
 unfoldable pub cases : List Case
 unfolding reads reads-at encodes writes
@@ -63,15 +60,13 @@ cases =
     ∷ encodes 16384 (0x80 ∷ 0x80 ∷ 0x01 ∷ [])
     ∷ encodes 2097151 (0xff ∷ 0xff ∷ 0x7f ∷ [])
     ∷ encodes 2097152 (0x80 ∷ 0x80 ∷ 0x80 ∷ 0x01 ∷ [])
-    -- a write that fits exactly, one with room to spare, one byte short, past the end
-    ∷ writes (7 ∷ 0 ∷ 0 ∷ []) 1 128 (End 3) 0 (7 ∷ 0x80 ∷ 0x01 ∷ [])
-    ∷ writes (7 ∷ 0 ∷ 0 ∷ 9 ∷ []) 1 128 (End 3) 0 (7 ∷ 0x80 ∷ 0x01 ∷ 9 ∷ [])
-    ∷ writes (7 ∷ 0 ∷ []) 1 128 Full 14 (7 ∷ 0 ∷ [])
-    ∷ writes (7 ∷ []) 2 0 Full 14 (7 ∷ [])
+    -- a write at the end, and one before other bytes, which stay
+    ∷ writes (7 ∷ 0 ∷ 0 ∷ []) 1 128 (7 ∷ 0x80 ∷ 0x01 ∷ [])
+    ∷ writes (7 ∷ 0 ∷ 0 ∷ 9 ∷ []) 1 128 (7 ∷ 0x80 ∷ 0x01 ∷ 9 ∷ [])
     ∷ []
 
 pub worked : map (λ (c : Case). c .got) cases ≡ map (λ (c : Case). c .want) cases
-unfolding cases encode encodeIn above readIn placed written writtenAt
+unfolding cases encode encodeIn above readIn placed written
 worked = refl
 
 -- ---- each theorem at numbers that meet its hypotheses
@@ -99,10 +94,6 @@ met-place = readFrom-number groups (7 ∷ 0x80 ∷ 0x01 ∷ 9 ∷ []) 1 refl
 pub met-groups : length (encode 300) ≤ groups
 unfolding encode encodeIn above readIn placed
 met-groups = readFrom-length groups (encode 300) 0 (encode-bytes 300) refl
-
-pub met-full : (writtenAt (7 ∷ []) 1 0 ≡ Full) × (written (7 ∷ []) 1 0 ≡ 7 ∷ [])
-unfolding encode encodeIn
-met-full = written-full (7 ∷ []) 1 0 (omega arith)
 
 pub met-written : readAt (written (7 ∷ 0 ∷ 0 ∷ []) 1 128) 1 ≡ Number 128 (1 + length (encode 128))
 unfolding encode encodeIn

@@ -1,16 +1,14 @@
 -- Numbers at a place of a list: what `readFrom` comes to byte by byte, where a number goes on, and what a write leaves.
-use mathlib.Core.Path.{_≡_, refl, sym, ap, _∙_}
+use mathlib.Core.Path.{_≡_, refl, ap, _∙_}
 use mathlib.Core.List.{List, _++_, append-assoc}
 use Prim.Native.Nat.{ℕ, zero, suc, _+_, _-_, _*_, _^_, _≤_, _<_}
 use native.Mathlib.Numerals.{add-one}
 use native.Mathlib.Omega.{arith}
-use borrow.Author.Tests.{le-leb, lt-leb}
 use lib.ListN.{length, getD, take, drop, length-append, length-drop, drop-of-length-le}
 use lib.Seq.{sets, sets-eq, drop-at, drop-cons, drop-drop, getD-drop, length-take-le}
-use Rattle.number.specs.Number.{groups, encode, Front, number, bad, above, readIn, Bytes, placed, readFrom, readAt, written, writtenAt}
+use Rattle.number.specs.Number.{groups, encode, Front, number, bad, above, readIn, Bytes, placed, readFrom, readAt, written}
 use Rattle.number.specs.declared.Reading.{Reading}
 use Rattle.number.specs.declared.Reading.the-variants.{Number, Bad}
-use Rattle.number.specs.declared.Written.the-variants.{End, Full}
 use Rattle.number.proofs.Laws.{encode-length, readIn-last, readIn-more, readIn-encode, readIn-number, readIn-rest}
 
 -- ---- byte by byte
@@ -96,30 +94,19 @@ readFrom-encode g before x rest h =
 -- ---- a number that is written
 
 module _ (log : List ℕ) (at x : ℕ) where
-  pub written-fits : at + length (encode x) ≤ length log
-      → (writtenAt log at x ≡ End (at + length (encode x))) × (written log at x ≡ take at log ++ encode x ++ drop (at + length (encode x)) log)
-  unfolding written writtenAt
-  written-fits h = (rw (le-leb _ _ h), rw (le-leb _ _ h))
+  -- byte by byte, where the bytes are known
+  pub sets-written : (bs : List ℕ) → encode x ≡ bs → at + length bs ≤ length log → sets log at bs ≡ written log at x
+  unfolding written
+  sets-written bs e h = rw e (sets-eq bs log at h)
 
-  pub written-full : length log < at + length (encode x) → (writtenAt log at x ≡ Full) × (written log at x ≡ log)
-  unfolding written writtenAt
-  written-full h = (rw (lt-leb _ _ h), rw (lt-leb _ _ h))
-
-  -- the same, byte by byte, where the bytes are known
-  pub sets-fits : (bs : List ℕ) → encode x ≡ bs → at + length bs ≤ length log → (End (at + length bs) ≡ writtenAt log at x) × (sets log at bs ≡ written log at x)
-  sets-fits bs e h =
-      let room : at + length (encode x) ≤ length log = rw e h in
-      let f = written-fits room in
-      (rw e at (sym (f .0)), rw e at (sets-eq (encode x) log at room ∙ sym (f .1)))
-
-  pub sets-full : (bs : List ℕ) → encode x ≡ bs → length log < at + length bs → (Full ≡ writtenAt log at x) × (log ≡ written log at x)
-  sets-full bs e h =
-      let f = written-full (rw e h) in
-      (sym (f .0), sym (f .1))
+  pub written-is : written log at x ≡ take at log ++ encode x ++ drop (at + length (encode x)) log
+  unfolding written
+  written-is = refl
 
   -- what is written reads back, and ends where the writing did
   pub readAt-written : x < 128 ^ groups → at + length (encode x) ≤ length log → readAt (written log at x) at ≡ Number x (at + length (encode x))
+  unfolding written
   readAt-written h room =
       let l : length (take at log) ≡ at = length-take-le at log (omega arith) in
-      rw (written-fits room .1, append-assoc)
+      rw append-assoc
       (rw l at (readFrom-encode groups (take at log) x (drop (at + length (encode x)) log) (encode-length x groups (omega arith) .1 h)))

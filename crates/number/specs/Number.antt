@@ -1,13 +1,11 @@
 -- Numbers of a script and a log: groups of seven bits, low group first, top bit set where another follows, in shortest form.
-use mathlib.Core.Bool.{Bool, true, false, cond}
+use mathlib.Core.Bool.{true, false}
 use mathlib.Core.List.{List, [], _∷_, _++_}
 use Prim.Native.Nat.{ℕ, zero, suc, _+_, _-_, _*_, _/_, _%_, _<_}
-use lib.Dec.{ltb, leb}
+use lib.Dec.{ltb}
 use lib.ListN.{length, getD, take, drop}
 use Rattle.number.specs.declared.Reading.{Reading}
 use Rattle.number.specs.declared.Reading.the-variants.{Number, Bad}
-use Rattle.number.specs.declared.Written.{Written}
-use Rattle.number.specs.declared.Written.the-variants.{End, Full}
 
 -- A number that is read takes at most so many groups.
 abbrev pub groups : ℕ
@@ -64,23 +62,12 @@ readAt s at = readFrom groups s at
 
 -- ---- writing x at a place of a log
 
-abbrev pub fits : List ℕ → ℕ → ℕ → Bool
-fits log at x = leb (at + length (encode x)) (length log)
-
--- the log after it
+-- The log after it, where there is room.
 unfoldable pub written : List ℕ → ℕ → ℕ → List ℕ
-written log at x = cond (fits log at x) (take at log ++ encode x ++ drop (at + length (encode x)) log) log
-
--- the answer
-unfoldable pub writtenAt : List ℕ → ℕ → ℕ → Written
-writtenAt log at x = cond (fits log at x) (End (at + length (encode x))) Full
+written log at x = take at log ++ encode x ++ drop (at + length (encode x)) log
 
 -- ---- the refusal of document 01 that an answer stands for; 0 is none
 
 abbrev pub readRefusal : Reading → ℕ
 readRefusal (Number x e) = 0
 readRefusal Bad = 2
-
-abbrev pub writtenRefusal : Written → ℕ
-writtenRefusal (End e) = 0
-writtenRefusal Full = 14

@@ -1,9 +1,9 @@
 // Numbers of a script and a log, read and written at a place of a slice. `specs/Number.antt` says what
 // a number's bytes are.
 ghost use mathlib.Core.Path.{_≡_};
-ghost use Prim.Native.Nat.{_<_, _≤_};
+ghost use Prim.Native.Nat.{_+_, _<_, _≤_};
 ghost use lib.ListN.{length, getD};
-ghost use Rattle.number.specs.Number.{encode, readFrom, readAt, written, writtenAt};
+ghost use Rattle.number.specs.Number.{encode, readFrom, readAt, written};
 
 // A number that is read takes at most so many groups of seven bits.
 const GROUPS: usize = 3;
@@ -12,12 +12,6 @@ const GROUPS: usize = 3;
 pub enum Reading {
     Number(u32, usize),
     Bad,
-}
-
-// What came of a write: the place after the number; or there was no room, and nothing is written.
-pub enum Written {
-    End(usize),
-    Full,
 }
 
 // A byte of a slice, widened: a caller learns its range, and owes only the index.
@@ -61,57 +55,21 @@ pub fn read(s: &[u8], at: usize) -> Reading
     read_groups(s, at, GROUPS)
 }
 
-// How many groups x takes.
-fn size(x: u32) -> usize
-    ensures { λ r. ⌜ r ≡ length (encode x) ⌝ }
-{
-    if x < 128 {
-        return 1;
-    }
-    1 + size(x / 128)
-}
-
-// A number of one group.
-fn write_one(log: &mut [u8], at: usize, x: u32) -> Written
-    requires { ⌜ x < 128 ⌝ }
-    ensures { λ r. ⌜ r ≡ writtenAt (now (log .entry)) at x ⌝ }
-    ensures { λ _. ⌜ now (log .exit) ≡ written (now (log .entry)) at x ⌝ }
-{
-    if log.len() <= at {
-        return Written::Full;
-    }
-    log[at] = x as u8;
-    Written::End(at + 1)
-}
-
 // A number of two groups.
-fn write_two(log: &mut [u8], at: usize, x: u32) -> Written
-    requires { ⌜ (128 ≤ x) × (x < 16384) ⌝ }
-    ensures { λ r. ⌜ r ≡ writtenAt (now (log .entry)) at x ⌝ }
+fn push_two(log: &mut [u8], at: usize, x: u32)
+    requires { ⌜ (at + 2 ≤ length (now log)) × (128 ≤ x) × (x < 16384) ⌝ }
     ensures { λ _. ⌜ now (log .exit) ≡ written (now (log .entry)) at x ⌝ }
 {
-    if log.len() <= at {
-        return Written::Full;
-    }
-    if log.len() == at + 1 {
-        return Written::Full;
-    }
     log[at] = (x % 128 + 128) as u8;
     log[at + 1] = (x / 128) as u8;
-    Written::End(at + 2)
 }
 
-// A number of any size. The room is tested first, so that nothing is written where x does not fit.
-fn write_groups(log: &mut [u8], at: usize, x: u32) -> Written
-    ensures { λ r. ⌜ r ≡ writtenAt (now (log .entry)) at x ⌝ }
+// A number of any size.
+fn push_groups(log: &mut [u8], at: usize, x: u32) -> usize
+    requires { ⌜ at + length (encode x) ≤ length (now log) ⌝ }
+    ensures { λ r. ⌜ r ≡ at + length (encode x) ⌝ }
     ensures { λ _. ⌜ now (log .exit) ≡ written (now (log .entry)) at x ⌝ }
 {
-    if log.len() < at {
-        return Written::Full;
-    }
-    if log.len() - at < size(x) {
-        return Written::Full;
-    }
     let mut i = at;
     let mut rest = x;
     while 128 <= rest {
@@ -120,20 +78,23 @@ fn write_groups(log: &mut [u8], at: usize, x: u32) -> Written
         i += 1;
     }
     log[i] = rest as u8;
-    Written::End(i + 1)
+    i + 1
 }
 
-// Writes x at `at`, whether or not `read` takes as many groups. Most numbers of a log have one or two groups, and need
-// no loop.
-pub fn write(log: &mut [u8], at: usize, x: u32) -> Written
-    ensures { λ r. ⌜ r ≡ writtenAt (now (log .entry)) at x ⌝ }
+// Writes x at `at`, whether or not `read` takes as many groups: the place after it. Most numbers of a log have one or two
+// groups, and need no loop. Five groups hold every u32, so there is room for it.
+pub fn push(log: &mut [u8], at: usize, x: u32) -> usize
+    requires { ⌜ at + 5 ≤ length (now log) ⌝ }
+    ensures { λ r. ⌜ r ≡ at + length (encode x) ⌝ }
     ensures { λ _. ⌜ now (log .exit) ≡ written (now (log .entry)) at x ⌝ }
 {
     if x < 128 {
-        return write_one(log, at, x);
+        log[at] = x as u8;
+        return at + 1;
     }
     if x < 16384 {
-        return write_two(log, at, x);
+        push_two(log, at, x);
+        return at + 2;
     }
-    write_groups(log, at, x)
+    push_groups(log, at, x)
 }

@@ -5,9 +5,8 @@ use mathlib.Core.List.{List, [], _∷_, _++_}
 use Prim.Native.Nat.{ℕ, zero, suc, _+_, _-_, _≤_}
 use lib.Dec.{leb, ltb, eqb}
 use lib.ListN.{length, drop, replicate}
-use Rattle.number.specs.Number.{readRefusal, writtenRefusal}
+use Rattle.number.specs.Number.{readRefusal}
 use Rattle.number.specs.declared.Reading.the-variants.{Bad}
-use Rattle.number.specs.declared.Written.the-variants.{Full}
 use Rattle.pb.specs.Sum.{variable, neg}
 use Rattle.record.specs.Record.{deletion, bytes, steps, clauses}
 use Rattle.totdb.specs.Nodes.{Node, leaf, at, len, joined, known, leafCount, taken}
@@ -93,7 +92,7 @@ pub data Result : Type 0 where
 -- Question 14, of the whole log after a command.
 unfoldable pub fitted : ℕ → State → Result
 unfolding bytes
-fitted capacity s = elim (leb (length (bytes (s .log))) capacity) [ true ↦ accepted s | false ↦ refused (writtenRefusal Full) ]
+fitted capacity s = elim (leb (length (bytes (s .log))) capacity) [ true ↦ accepted s | false ↦ refused 14 ]
 
 unfoldable pub play : Head → ℕ → Command → State → Result
 unfolding firstNo questions act fitted

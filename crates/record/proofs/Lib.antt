@@ -9,6 +9,5 @@ pub mod Sums
 pub mod Tokens
 pub mod Writing
 pub mod WrittenCases
-pub mod WritingCases
 pub mod Truth
 pub mod TruthCases

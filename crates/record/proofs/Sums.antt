@@ -49,7 +49,7 @@ module _ (s : Bool) (ls : List ℕ) where
   pub units-all : (k : ℕ) → length ls ≤ k → termNumbers (units (signed s (take k ls))) ≡ termNumbers (units (signed s ls))
   units-all k h = rw (take-all k ls h)
 
-units-length : (ls : List ℕ) → length (units ls) ≡ length ls
+pub units-length : (ls : List ℕ) → length (units ls) ≡ length ls
 unfolding units
 units-length [] = refl
 units-length (l ∷ ls) = ap suc (units-length ls)

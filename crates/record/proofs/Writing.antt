@@ -1,205 +1,216 @@
--- Laws of writing: what a number, one writer after another, and a whole command leave.
+-- Laws of writing: what a number, one writer after another, and a record that was written apart leave.
 use mathlib.Core.Path.{_≡_, refl, sym, ap, _∙_}
-use mathlib.Core.Bool.{Bool, true, false}
 use mathlib.Core.List.{List, [], _∷_, _++_, append-assoc, append-nil, flatMap}
-use Prim.Native.Nat.{ℕ, zero, suc, _+_, _-_, _≤_, _<_}
+use Prim.Native.Nat.{ℕ, _+_, _-_, _≤_, _<_}
+use native.Mathlib.Decide.{decLe}
 use native.Mathlib.Nat.{le-antisymm}
 use native.Mathlib.Omega.{arith}
-use borrow.Author.Tests.{le-leb, lt-leb, leb-true, leb-false}
-use borrow.Rule.Slice.PartMut.{midOf, putMid, mid-len}
-use lib.ListN.{length, take, drop, replicate, length-append, length-drop, length-replicate, drop-of-length-le}
-use lib.Seq.{take-append-le, take-at, take-take, drop-append-add, length-take-le, drop-length}
-use Rattle.number.specs.Number.{encode, fits, written, writtenAt}
-use Rattle.number.specs.declared.Written.the-variants.{End, Full}
-use Rattle.number.proofs.Places.{written-fits, written-full}
-use Rattle.record.specs.declared.Cursor.{Cursor}
-use Rattle.record.specs.Writing.{Buffer, buffer, cursorAt, put, puts, Puts, settled, filled}
+use borrow.Author.Tests.{le-leb, lt-leb}
+use lib.Dec.{leb}
+use lib.ListN.{length, take, drop, replicate, length-append}
+use lib.Seq.{take-at, take-take, length-take-le, drop-length}
+use Rattle.memo.proofs.Lists.{flatMap-append}
+use Rattle.number.specs.Number.{encode}
+use Rattle.number.proofs.Places.{written-is}
+use Rattle.record.specs.Writing.{Buffer, buffer, Content, written, overflow, content, append, Onward, Puts}
 
--- ---- one number
+-- ---- the content of a buffer
 
--- The two cases of `put`: there is room, and there is none.
-abbrev advanced : Buffer → ℕ → Buffer
-advanced b x = buffer (written (b .log) (b .cursor .at) x) (cursorAt (b .cursor .at + length (encode x)) (b .cursor .full))
+module _ (l : List ℕ) (a : ℕ) where
+  pub content-in : a ≤ length l → content (buffer l a) ≡ written (take a l)
+  unfolding content
+  content-in h = rw (le-leb _ _ h)
 
-abbrev flagged : Buffer → Buffer
-flagged b = buffer (b .log) (cursorAt (b .cursor .at) true)
+  pub content-over : length l < a → content (buffer l a) ≡ overflow
+  unfolding content
+  content-over h = rw (lt-leb _ _ h)
 
-module _ (b : Buffer) (x : ℕ) where
-  put-fits : b .cursor .at + length (encode x) ≤ length (b .log) → put b x ≡ advanced b x
-  unfolding put
-  put-fits h = rw (le-leb _ _ h)
+module _ (n : ℕ) (bs ws : List ℕ) where
+  pub append-fits : length ws + length bs ≤ n → append n bs (written ws) ≡ written (ws ++ bs)
+  unfolding append
+  append-fits h = rw (le-leb _ _ h)
 
-  put-full : length (b .log) < b .cursor .at + length (encode x) → put b x ≡ flagged b
-  unfolding put
-  put-full h = rw (lt-leb _ _ h)
+  pub append-over : n < length ws + length bs → append n bs (written ws) ≡ overflow
+  unfolding append
+  append-over h = rw (lt-leb _ _ h)
 
-  by-room : (P : Buffer → Type 0) → (b .cursor .at + length (encode x) ≤ length (b .log) → P (advanced b x))
-      → (length (b .log) < b .cursor .at + length (encode x) → P (flagged b)) → P (put b x)
-  by-room P room none = go (fits (b .log) (b .cursor .at) x) refl
-    where
-      go : (t : Bool) → fits (b .log) (b .cursor .at) x ≡ t → P (put b x)
-      go true e = let h = leb-true _ _ e in rw (put-fits h) (room h)
-      go false e = let h = leb-false _ _ e in rw (put-full h) (none h)
+pub append-none : (n : ℕ) (bs : List ℕ) → append n bs overflow ≡ overflow
+unfolding append
+append-none n bs = refl
 
--- What `number::write` answers, as a number that is put.
-module _ {l m : List ℕ} (c : Cursor) (x : ℕ) where
-  pub put-end : {e : ℕ} → m ≡ written l (c .at) x → writtenAt l (c .at) x ≡ End e → Puts (buffer l c) (x ∷ []) (buffer m (cursorAt e (c .full)))
-  unfolding puts
-  put-end {e} p q = record { is = by-room (buffer l c) x (λ b. buffer m (cursorAt e (c .full)) ≡ b) room none }
-    where
-      room : c .at + length (encode x) ≤ length l → buffer m (cursorAt e (c .full)) ≡ advanced (buffer l c) x
-      room h =
-          let f = written-fits l (c .at) x h .0 in
-          let k : e ≡ c .at + length (encode x) = cc in
-          rw (p, k)
+append-twice : (n : ℕ) (xs bs : List ℕ) (c : Content) → append n bs (append n xs c) ≡ append n (xs ++ bs) c
+append-twice n xs bs overflow = rw (append-none n xs, append-none n bs, append-none n (xs ++ bs))
+append-twice n xs bs (written ws) = by (decLe (length ws + length xs) n) (decLe (length ws + length (xs ++ bs)) n)
+  where
+    both : length (xs ++ bs) ≡ length xs + length bs
+    both = length-append xs bs
 
-      none : length l < c .at + length (encode x) → buffer m (cursorAt e (c .full)) ≡ flagged (buffer l c)
-      none h =
-          let f = written-full l (c .at) x h .0 in
-          absurd (let z : _≡_ {A = ℕ} 0 1 = cc in omega arith)
+    front : length (ws ++ xs) ≡ length ws + length xs
+    front = length-append ws xs
 
-  pub put-none : m ≡ written l (c .at) x → writtenAt l (c .at) x ≡ Full → Puts (buffer l c) (x ∷ []) (buffer m (cursorAt (c .at) true))
-  unfolding puts
-  put-none p q = record { is = by-room (buffer l c) x (λ b. buffer m (cursorAt (c .at) true) ≡ b) room none }
-    where
-      room : c .at + length (encode x) ≤ length l → buffer m (cursorAt (c .at) true) ≡ advanced (buffer l c) x
-      room h =
-          let f = written-fits l (c .at) x h .0 in
-          absurd (let z : _≡_ {A = ℕ} 0 1 = cc in omega arith)
+    by : Dec (length ws + length xs ≤ n) → Dec (length ws + length (xs ++ bs) ≤ n)
+        → append n bs (append n xs (written ws)) ≡ append n (xs ++ bs) (written ws)
+    by (yes a) (yes b) =
+        rw (append-fits n xs ws a, append-fits n bs (ws ++ xs) (omega (arith, both, front)), append-fits n (xs ++ bs) ws b, append-assoc)
+    by (yes a) (no b) =
+        rw (append-fits n xs ws a, append-over n bs (ws ++ xs) (omega (arith, both, front)), append-over n (xs ++ bs) ws (omega arith))
+    by (no a) (yes b) = absurd (omega (arith, both))
+    by (no a) (no b) = rw (append-over n xs ws (omega arith), append-none, append-over n (xs ++ bs) ws (omega arith))
 
-      none : length l < c .at + length (encode x) → buffer m (cursorAt (c .at) true) ≡ flagged (buffer l c)
-      none h = rw (p, written-full l (c .at) x h .1)
+append-nothing : (b : Buffer) → content b ≡ append (length (b .log)) [] (content b)
+append-nothing b = by (decLe (b .at) (length (b .log)))
+  where
+    by : Dec (b .at ≤ length (b .log)) → content b ≡ append (length (b .log)) [] (content b)
+    by (yes h) =
+        let s : length (take (b .at) (b .log)) ≡ b .at = length-take-le (b .at) (b .log) h in
+        let z : length {A = ℕ} [] ≡ 0 = refl in
+        rw (content-in (b .log) (b .at) h, append-fits (length (b .log)) [] (take (b .at) (b .log)) (omega (arith, s, z)), append-nil)
+    by (no h) = rw (content-over (b .log) (b .at) (omega arith), append-none)
+
+-- The test of the room, by what is left.
+pub room-left : (l a n : ℕ) → a ≤ l → leb n (l - a) ≡ leb (a + n) l
+room-left l a n h = by (decLe (a + n) l)
+  where
+    by : Dec (a + n ≤ l) → leb n (l - a) ≡ leb (a + n) l
+    by (yes k) = rw (le-leb (a + n) l k) (le-leb n (l - a) (omega arith))
+    by (no k) = rw (lt-leb (a + n) l (omega arith)) (lt-leb n (l - a) (omega arith))
 
 -- ---- one writer after another
 
-pub nothing : {b : Buffer} → Puts b [] b
-unfolding puts
-nothing = record { is = refl }
+pub stays : {b : Buffer} → Onward b b
+stays = record { size = refl; on = omega arith; front = λ k h. refl }
 
-puts-append : (b : Buffer) (ms ns : List ℕ) → puts (puts b ms) ns ≡ puts b (ms ++ ns)
-unfolding puts
-puts-append b [] ns = refl
-puts-append b (x ∷ ms) ns = puts-append (put b x) ms ns
+pub onward-then : {b c d : Buffer} → Onward b c → Onward c d → Onward b d
+onward-then {b} {c} {d} p q = record {
+  size = q .size ∙ p .size;
+  on = omega (arith, p .on, q .on);
+  front = λ k h. q .front k (omega (arith, p .on)) ∙ p .front k h;
+}
+
+pub nothing : {b : Buffer} → Puts b [] b
+unfolding flatMap
+nothing {b} = record { onward = stays; is = append-nothing b }
 
 -- Nested to the right, so that the lists compute.
 pub after : {b c d : Buffer} {ms ns : List ℕ} → Puts b ms c → Puts c ns d → Puts b (ms ++ ns) d
-after {b} {c} {d} {ms} {ns} p q = record { is = q .is ∙ ap (λ (a : Buffer). puts a ns) (p .is) ∙ puts-append b ms ns }
+after {b} {c} {d} {ms} {ns} p q = record {
+  onward = onward-then (p .onward) (q .onward);
+  is = q .is
+      ∙ rw (p .onward .size, p .is, append-twice (length (b .log)) (flatMap encode ms) (flatMap encode ns) (content b), flatMap-append encode ms ns);
+}
 
--- ---- the log keeps its length
+-- ---- bytes that are written at the place
 
-written-length : (l : List ℕ) (at x : ℕ) → at + length (encode x) ≤ length l → length (written l at x) ≡ length l
-written-length l at x h =
-    rw (written-fits l at x h .1)
-    (simp (length-append, length-take-le at l (omega arith), length-drop) (omega arith))
+module _ (l m : List ℕ) (a e : ℕ) (bs : List ℕ) (room : a + length bs ≤ length l) where
+  -- e is the place after them, and the bytes before it are known.
+  pub appended : e ≡ a + length bs → length m ≡ length l → take e m ≡ take a l ++ bs
+      → content (buffer m e) ≡ append (length l) bs (content (buffer l a))
+  appended end size is =
+      let s : length (take a l) ≡ a = length-take-le a l (omega arith) in
+      rw (
+        content-in l a (omega arith),
+        append-fits (length l) bs (take a l) (omega (arith, s)),
+        content-in m e (omega (arith, end, size)),
+        is,
+      )
 
-puts-length : (b : Buffer) (ns : List ℕ) → length (puts b ns .log) ≡ length (b .log)
-unfolding puts
-puts-length b [] = refl
-puts-length b (x ∷ ns) =
-    puts-length (put b x) ns
-    ∙ by-room b x (λ c. length (c .log) ≡ length (b .log)) (written-length (b .log) (b .cursor .at) x) (λ _. refl)
+  pub pasted : e ≡ a + length bs → length m ≡ length l → m ≡ take a l ++ bs ++ drop (a + length bs) l
+      → content (buffer m e) ≡ append (length l) bs (content (buffer l a))
+  pasted end size is =
+      let s : length (take a l) ≡ a = length-take-le a l (omega arith) in
+      let k : e ≡ length (take a l ++ bs) = rw (length-append (take a l) bs) (omega (arith, s, end)) in
+      appended end size (rw is (take-at (take a l ++ bs) (drop (a + length bs) l) e (sym k)))
 
-pub same-length : {b c : Buffer} {ns : List ℕ} → Puts b ns c → length (c .log) ≡ length (b .log)
-same-length {b} {c} {ns} p = ap (λ (a : Buffer). length (a .log)) (p .is) ∙ puts-length b ns
+-- They find no room, or there was none before.
+pub no-room : (l m : List ℕ) (a e : ℕ) (bs : List ℕ) → a ≤ length l → length l < a + length bs → length m < e
+    → content (buffer m e) ≡ append (length l) bs (content (buffer l a))
+no-room l m a e bs h k past =
+    let s : length (take a l) ≡ a = length-take-le a l h in
+    rw (content-in l a h, append-over (length l) bs (take a l) (omega (arith, s)), content-over m e past)
 
--- ---- the code of `clear` and `settle`
+pub full-before : (l m : List ℕ) (a e : ℕ) (bs : List ℕ) → length l < a → length m < e
+    → content (buffer m e) ≡ append (length l) bs (content (buffer l a))
+full-before l m a e bs h past = rw (content-over l a h, append-none, content-over m e past)
+
+-- Where the bytes before a place are known, so are those before a place ahead of it.
+pub same-front : (l m : List ℕ) (a k : ℕ) → k ≤ a → take a m ≡ take a l → take k m ≡ take k l
+same-front l m a k h e = sym (take-take k a m h) ∙ ap (take k) e ∙ take-take k a l h
+
+pub copied-front : (l m bs : List ℕ) (a n k : ℕ) → k ≤ a → a ≤ length l → take (a + n) m ≡ take a l ++ bs → take k m ≡ take k l
+copied-front l m bs a n k h inside is =
+    let s : length (take a l) ≡ a = length-take-le a l inside in
+    same-front l m a k h (sym (take-take a (a + n) m (omega arith)) ∙ ap (take a) is ∙ take-at (take a l) bs a s)
+
+-- One number, where there is room.
+pub put-one : (l m : List ℕ) (a e x : ℕ) → a + length (encode x) ≤ length l → e ≡ a + length (encode x) → length m ≡ length l
+    → m ≡ Rattle.number.specs.Number.written l a x → Puts (buffer l a) (x ∷ []) (buffer m e)
+unfolding flatMap
+put-one l m a e x room end size is =
+    let s : length (take a l) ≡ a = length-take-le a l (omega arith) in
+    let front : take a m ≡ take a l = rw (is ∙ written-is l a x, append-assoc) (take-at (take a l) (encode x ++ drop (a + length (encode x)) l) a s) in
+    record {
+      onward = record { size = size; on = omega (arith, end); front = λ k h. same-front l m a k h front };
+      is = rw append-nil (pasted l m a e (encode x) room end size (is ∙ written-is l a x));
+    }
+
+-- What was put apart, from its beginning, is in place once its bytes are.
+pub from-apart : {z w l m : List ℕ} {n a e : ℕ} {ns : List ℕ} → Puts (buffer z 0) ns (buffer w n) → n ≤ length w
+    → Onward (buffer l a) (buffer m e) × (content (buffer m e) ≡ append (length l) (take n w) (content (buffer l a))) → Puts (buffer l a) ns (buffer m e)
+from-apart {z} {w} {l} {m} {n} {a} {e} {ns} p h (onward, is) =
+    record { onward = onward; is = rw (bytes (decLe (length (flatMap encode ns)) (length z))) at is }
+  where
+    start : content (buffer z 0) ≡ written []
+    start = content-in z 0 (omega arith)
+
+    took : content (buffer w n) ≡ written (take n w)
+    took = content-in w n h
+
+    none : {A : Type 0} → overflow ≡ written (take n w) → A
+    none q = absurd (let z : _≡_ {A = ℕ} 0 1 = cc in omega arith)
+
+    inside : written (take n w) ≡ written (flatMap encode ns) → take n w ≡ flatMap encode ns
+    inside q = cc
+
+    bytes : Dec (length (flatMap encode ns) ≤ length z) → take n w ≡ flatMap encode ns
+    bytes (yes k) = inside (sym took ∙ p .is ∙ rw (start, append-fits (length z) (flatMap encode ns) [] (omega arith)))
+    bytes (no k) = none (sym (append-over (length z) (flatMap encode ns) [] (omega arith)) ∙ ap (append (length z) (flatMap encode ns)) (sym start) ∙ sym (p .is) ∙ took)
+
+-- ---- what is written, by the bytes
+
+module _ {b d : Buffer} {ns : List ℕ} (p : Puts b ns d) where
+  pub still-over : length (b .log) < b .at → content d ≡ overflow
+  still-over h = p .is ∙ rw (content-over (b .log) (b .at) h, append-none)
+
+-- A place whose content is known.
+module _ (l : List ℕ) (a : ℕ) where
+  pub not-over : {bs : List ℕ} → content (buffer l a) ≡ written bs → a ≤ length l
+  not-over {bs} e = by (decLe a (length l))
+    where
+      by : Dec (a ≤ length l) → a ≤ length l
+      by (yes h) = h
+      by (no h) =
+          let q : overflow ≡ written bs = sym (content-over l a (omega arith)) ∙ e in
+          absurd (let z : _≡_ {A = ℕ} 0 1 = cc in omega arith)
+
+  pub content-is : {bs : List ℕ} → content (buffer l a) ≡ written bs → take a l ≡ bs
+  content-is {bs} e = inside (sym (content-in l a (not-over e)) ∙ e)
+    where
+      inside : written (take a l) ≡ written bs → take a l ≡ bs
+      inside q = cc
+
+  pub content-length : {bs : List ℕ} → content (buffer l a) ≡ written bs → length bs ≡ a
+  content-length e = ap length (sym (content-is e)) ∙ length-take-le a l (not-over e)
+
+  pub is-over : content (buffer l a) ≡ overflow → length l < a
+  is-over e = by (decLe a (length l))
+    where
+      by : Dec (a ≤ length l) → length l < a
+      by (yes h) =
+          let q : written (take a l) ≡ overflow = sym (content-in l a h) ∙ e in
+          absurd (let z : _≡_ {A = ℕ} 0 1 = cc in omega arith)
+      by (no h) = omega arith
+
+-- ---- the code of `clear`
 
 pub all-zeros : (s d : List ℕ) (i : ℕ) → i ≤ length d → length d ≤ i → s ≡ replicate i 0 ++ drop i d → s ≡ replicate (length d) 0
 all-zeros s d i a b p = p ∙ ap (λ (k : ℕ). replicate k 0 ++ drop k d) (le-antisymm a b) ∙ rw (drop-length, append-nil)
-
-module _ (l : List ℕ) (c : Cursor) (start : ℕ) where
-  pub settled-not : c .full ≡ false → buffer l c ≡ settled start (buffer l c)
-  unfolding settled
-  settled-not h = rw h
-
-  pub settled-full : (z : List ℕ) → start ≤ length l → c .full ≡ true → z ≡ replicate (length (midOf start (length l - start) l)) 0
-      → buffer (putMid start (length l - start) l z) (cursorAt start false) ≡ settled start (buffer l c)
-  unfolding settled
-  settled-full z h f e =
-      let k : length (drop start l) ≤ length l - start = simp length-drop (omega arith) in
-      rw (f, drop-of-length-le (drop start l) k, append-nil, e, mid-len start (length l) l (omega arith))
-
--- ---- a command that fits
-
-drop-zeros : (k m : ℕ) → drop {A = ℕ} k (replicate m 0) ≡ replicate (m - k) 0
-drop-zeros zero m = let e : m - 0 ≡ m = omega arith in rw e
-drop-zeros (suc k) zero = let e : 0 - suc k ≡ 0 = omega arith in rw e
-drop-zeros (suc k) (suc m) = let e : suc m - suc k ≡ m - k = omega arith in rw e (drop-zeros k m)
-
-pub filled-length : (n : ℕ) (bs : List ℕ) → length bs ≤ n → length (filled n bs .log) ≡ n
-filled-length n bs h = simp (length-append, length-replicate) (omega arith)
-
-put-filled : (n : ℕ) (bs : List ℕ) (x : ℕ) → length bs + length (encode x) ≤ n → put (filled n bs) x ≡ filled n (bs ++ encode x)
-put-filled n bs x h =
-    let room : length bs + length (encode x) ≤ length (filled n bs .log) = rw (filled-length n bs (omega arith)) h in
-    let size : length bs + length (encode x) ≡ length (bs ++ encode x) = sym (length-append bs (encode x)) in
-    let left : n - length bs - length (encode x) ≡ n - length (bs ++ encode x) = omega arith in
-    put-fits (filled n bs) x room
-    ∙ rw (
-      written-fits (filled n bs .log) (length bs) x room .1,
-      take-at bs (replicate (n - length bs) 0) (length bs) refl,
-      drop-append-add bs (replicate (n - length bs) 0) (length (encode x)),
-      drop-zeros,
-      left,
-      size,
-    )
-
-pub puts-fit : (n : ℕ) (bs ns : List ℕ) → length bs + length (flatMap encode ns) ≤ n → puts (filled n bs) ns ≡ filled n (bs ++ flatMap encode ns)
-unfolding puts flatMap
-puts-fit n bs [] h = rw append-nil
-puts-fit n bs (x ∷ ns) h =
-    let s = length-append (encode x) (flatMap encode ns) in
-    let t = length-append bs (encode x) in
-    ap (λ (b : Buffer). puts b ns) (put-filled n bs x (omega arith))
-    ∙ puts-fit n (bs ++ encode x) ns (omega arith)
-    ∙ ap (filled n) (append-assoc bs (encode x) (flatMap encode ns))
-
--- ---- a command that does not fit: after a number that found no room a shorter one may still be written, and the flag stays
-
-puts-full : (b : Buffer) (ns : List ℕ) → b .cursor .full ≡ true → puts b ns .cursor .full ≡ true
-unfolding puts
-puts-full b [] e = e
-puts-full b (x ∷ ns) e = puts-full (put b x) ns (by-room b x (λ c. c .cursor .full ≡ true) (λ _. e) (λ _. refl))
-
-puts-over : (b : Buffer) (ns : List ℕ) → length (b .log) < b .cursor .at + length (flatMap encode ns) → b .cursor .at ≤ length (b .log)
-    → puts b ns .cursor .full ≡ true
-unfolding puts flatMap
-puts-over b [] h k = absurd (omega arith)
-puts-over b (x ∷ ns) h k =
-    let s = length-append (encode x) (flatMap encode ns) in
-    by-room b x (λ c. puts c ns .cursor .full ≡ true)
-    (λ room. let l = written-length (b .log) (b .cursor .at) x room in puts-over (advanced b x) ns (omega arith) (omega arith))
-    (λ _. puts-full (flagged b) ns refl)
-
--- What stood before the cursor stays.
-written-before : (l : List ℕ) (at x a : ℕ) → at + length (encode x) ≤ length l → a ≤ at → take a (written l at x) ≡ take a l
-written-before l at x a room h =
-    let s : length (take at l) ≡ at = length-take-le at l (omega arith) in
-    rw (
-      written-fits l at x room .1,
-      append-assoc,
-      take-append-le a (take at l) (encode x ++ drop (at + length (encode x)) l) (omega arith),
-      take-take a at l h,
-    )
-
-puts-before : (b : Buffer) (ns : List ℕ) (a : ℕ) → a ≤ b .cursor .at → take a (puts b ns .log) ≡ take a (b .log)
-unfolding puts
-puts-before b [] a h = refl
-puts-before b (x ∷ ns) a h =
-    by-room b x (λ c. take a (puts c ns .log) ≡ take a (b .log))
-    (λ room. puts-before (advanced b x) ns a (omega arith) ∙ written-before (b .log) (b .cursor .at) x a room h)
-    (λ _. puts-before (flagged b) ns a h)
-
-module _ (n : ℕ) (bs ns : List ℕ) (h : length bs ≤ n) (over : n < length bs + length (flatMap encode ns)) where
-  pub puts-flag : puts (filled n bs) ns .cursor .full ≡ true
-  puts-flag =
-      let s = filled-length n bs h in
-      puts-over (filled n bs) ns (omega arith) (omega arith)
-
-  pub puts-settled : settled (length bs) (puts (filled n bs) ns) ≡ filled n bs
-  unfolding settled
-  puts-settled =
-      let before = puts-before (filled n bs) ns (length bs) (omega arith) in
-      let k : take (length bs) (puts (filled n bs) ns .log) ≡ bs = before ∙ take-at bs (replicate (n - length bs) 0) (length bs) refl in
-      let z : length (puts (filled n bs) ns .log) ≡ n = puts-length (filled n bs) ns ∙ filled-length n bs h in
-      rw (puts-flag, k, z)

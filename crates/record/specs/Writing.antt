@@ -1,39 +1,44 @@
--- Writing numbers into a log of fixed length: the contract of every writer, and what the end of a command leaves.
+-- Writing numbers into a log of fixed length: the contract of every writer.
 use mathlib.Core.Path.{_≡_}
 use mathlib.Core.Bool.{Bool, true, false, cond}
-use mathlib.Core.List.{List, [], _∷_, _++_, map}
-use Prim.Native.Nat.{ℕ, _+_, _-_}
-use lib.ListN.{length, take, replicate}
-use Rattle.number.specs.Number.{encode, fits, written}
+use mathlib.Core.List.{List, _++_, map, flatMap}
+use Prim.Native.Nat.{ℕ, _+_, _≤_}
+use lib.Dec.{leb}
+use lib.ListN.{length, take}
+use Rattle.number.specs.Number.{encode}
 use Rattle.pb.specs.Sum.{neg}
-use Rattle.record.specs.declared.Cursor.{Cursor}
 
--- All that a writer changes.
+-- A log and the place of its next byte. A place past the end says that what was written did not fit.
 pub record Buffer : Type 0 where
   pub log : List ℕ
-  pub cursor : Cursor
+  pub at : ℕ
 
-abbrev pub buffer : List ℕ → Cursor → Buffer
-buffer l c = record { log = l; cursor = c }
+abbrev pub buffer : List ℕ → ℕ → Buffer
+buffer l a = record { log = l; at = a }
 
-abbrev pub cursorAt : ℕ → Bool → Cursor
-cursorAt a f = record { at = a; full = f }
+-- What is written so far. Bytes from the place on are left open: the end of a play clears them.
+pub data Content : Type 0 where
+  written : List ℕ → Content
+  overflow : Content
 
--- One number: whole where it fits, else nothing, and the flag is set.
-unfoldable pub put : Buffer → ℕ → Buffer
-put b x =
-    cond (fits (b .log) (b .cursor .at) x)
-    (buffer (written (b .log) (b .cursor .at) x) (cursorAt (b .cursor .at + length (encode x)) (b .cursor .full)))
-    (buffer (b .log) (cursorAt (b .cursor .at) true))
+unfoldable pub content : Buffer → Content
+content b = cond (leb (b .at) (length (b .log))) (written (take (b .at) (b .log))) overflow
 
--- One number after the other.
-unfoldable pub puts : Buffer → List ℕ → Buffer
-puts b [] = b
-puts b (x ∷ ns) = puts (put b x) ns
+-- More bytes in a log of length n: all of them, or they do not fit.
+unfoldable pub append : ℕ → List ℕ → Content → Content
+append n bs (written ws) = cond (leb (length ws + length bs) n) (written (ws ++ bs)) overflow
+append n bs overflow = overflow
 
--- The contract of every writer: it wrote the numbers ns into b, which became c.
-pub record Puts (b : Buffer) (ns : List ℕ) (c : Buffer) : Type 0 where
-  pub is : c ≡ puts b ns
+-- The place goes on, and the bytes before it stay.
+pub record Onward (b d : Buffer) : Type 0 where
+  pub size : length (d .log) ≡ length (b .log)
+  pub on : b .at ≤ d .at
+  pub front : (k : ℕ) → k ≤ b .at → take k (d .log) ≡ take k (b .log)
+
+-- The contract of every writer: it wrote the numbers ns into b, which became d.
+pub record Puts (b : Buffer) (ns : List ℕ) (d : Buffer) : Type 0 where
+  pub onward : Onward b d
+  pub is : content d ≡ append (length (b .log)) (flatMap encode ns) (content b)
 
 -- ---- literals
 
@@ -41,14 +46,3 @@ pub record Puts (b : Buffer) (ns : List ℕ) (c : Buffer) : Type 0 where
 unfoldable pub signed : Bool → List ℕ → List ℕ
 signed true ls = map neg ls
 signed false ls = ls
-
--- ---- a command
-
--- The end of a command that began at the place start: where a number found no room, all that the command wrote is wiped.
-unfoldable pub settled : ℕ → Buffer → Buffer
-settled start b =
-    cond (b .cursor .full) (buffer (take start (b .log) ++ replicate (length (b .log) - start) 0) (cursorAt start false)) b
-
--- The bytes bs, then zeros, in a log of length n; the next byte goes after bs.
-abbrev pub filled : ℕ → List ℕ → Buffer
-filled n bs = buffer (bs ++ replicate (n - length bs) 0) (cursorAt (length bs) false)

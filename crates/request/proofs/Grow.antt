@@ -1,18 +1,21 @@
 -- What every act keeps: a log that is too short stays too short, and a request that is held stays held.
 use mathlib.Core.Path.{sym}
 use mathlib.Core.List.{List, [], _∷_, flatMap, append-nil, List·Memᴰ, Memᴰ·append-left}
+use Prim.Native.Nat.{_≤_}
+use native.Mathlib.Omega.{arith}
+use lib.ListN.{length}
 use Rattle.memo.specs.Visit.{each, fresh, batch}
 use Rattle.memo.proofs.Unrolled.{each-all, ask-all}
+use Rattle.record.specs.Record.{bytes}
 use Rattle.totdb.specs.Nodes.{Node}
 use Rattle.cert.specs.Definitions.{Key, pulls}
 use Rattle.cert.specs.Equal.{request-dec, key-dec, keyRank}
 use Rattle.cert.specs.Requests.{Request, nodeOf, needs, Clause, clausesOf, looksOf}
 use Rattle.cert.specs.State.{State, keys, define, write, hold, lookUp, writeClause, writeRequest, serve}
-use Rattle.define.specs.Tables.{Over}
-use Rattle.define.proofs.Does.{grown, Grows}
+use Rattle.define.proofs.Simulates.{grown, Grows}
 use Rattle.define.proofs.Looks.{look-up-grows}
-use Rattle.clauses.proofs.Standing.{write-grows}
-use Rattle.request.specs.Rows.{askFor}
+use Rattle.clauses.proofs.Written.{write-grows}
+use Rattle.request.specs.Asked.{askFor}
 
 -- What the three acts keep, all that is made of them keeps.
 module _ (t : List Node) (R : State → Type 0) (lookUp-keeps : (k : Key) (s : State) → R s → R (lookUp t k s))
@@ -38,15 +41,17 @@ module _ (t : List Node) (R : State → Type 0) (lookUp-keeps : (k : Key) (s : S
 
 hold-grows : (x : Request) → Grows (λ t s. hold x s)
 unfolding hold
-hold-grows x c m t s h = grown [] (sym (append-nil (s .log))) h
+hold-grows x t s = grown s (hold x s) [] (sym (append-nil (s .log)))
 
 pub ask-grows : (x : Request) → Grows (λ t s. askFor t x s)
-ask-grows x c m t s h =
-    ask-keeps t (Over c m) (λ k u. look-up-grows k c m t u) (λ k u. write-grows (λ _. k) c m t u) (λ k u. hold-grows k c m t u) x s h
+ask-grows x t s =
+    ask-keeps t (λ u. length (bytes (s .log)) ≤ length (bytes (u .log))) (λ k u h. omega (arith, h, look-up-grows k t u))
+    (λ k u h. omega (arith, h, write-grows (λ _. k) t u)) (λ k u h. omega (arith, h, hold-grows k t u)) x s (omega arith)
 
 pub serve-grows : (xs : List Request) → Grows (λ t s. serve t xs s)
-serve-grows xs c m t s h =
-    serve-keeps t (Over c m) (λ k u. look-up-grows k c m t u) (λ k u. write-grows (λ _. k) c m t u) (λ k u. hold-grows k c m t u) xs s h
+serve-grows xs t s =
+    serve-keeps t (λ u. length (bytes (s .log)) ≤ length (bytes (u .log))) (λ k u h. omega (arith, h, look-up-grows k t u))
+    (λ k u h. omega (arith, h, write-grows (λ _. k) t u)) (λ k u h. omega (arith, h, hold-grows k t u)) xs s (omega arith)
 
 -- ---- what is held
 

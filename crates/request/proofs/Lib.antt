@@ -1,6 +1,7 @@
+-- What the code of requests rests on.
 pub mod Grow
-pub mod Hold
+pub mod Served
 pub mod Named
-pub mod Asked
-pub mod Table
+pub mod Flags
+pub mod Asks
 pub mod Steps

@@ -1,2 +1,3 @@
--- What the code of sides rests on.
+-- What the code of sides and of output lists rests on.
 pub mod Sides
+pub mod Listed

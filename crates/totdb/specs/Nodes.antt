@@ -3,7 +3,8 @@ use mathlib.Core.Bool.{Bool, false, _||_}
 use mathlib.Core.List.{List, [], _∷_, _++_, map}
 use Prim.Native.Nat.{ℕ, zero, suc, _+_, _-_, _*_}
 use lib.Dec.{eqb}
-use lib.ListN.{length, getD, take, drop}
+use lib.ListN.{length, getD, take, drop, replicate}
+use Rattle.sizes.specs.Sizes.{width}
 use Rattle.totdb.specs.declared.Side.{Side}
 
 -- A leaf with its literal. A join (an inner node of the totalizer's tree) with its leaf list, its first output variable and its two sides.
@@ -42,6 +43,11 @@ range s (suc n) = s ∷ range (suc s) n
 unfoldable pub outputs : Node → ℕ → ℕ → List ℕ
 unfolding output range
 outputs x f m = map (output x) (range (f + 1) m)
+
+-- The outputs of n values from the first, in a row with zeros after them.
+unfoldable pub outputRow : ℕ → ℕ → List ℕ
+unfolding fromFirst range
+outputRow l n = map (fromFirst l) (range 1 n) ++ replicate (width - n) 0
 
 -- ---- sides
 

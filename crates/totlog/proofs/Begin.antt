@@ -1,19 +1,20 @@
--- What a play begins with: a log and tables of zeros.
-use mathlib.Core.Path.{_≡_, refl, sym, _∙_, ap, subst}
-use mathlib.Core.Bool.{true, false}
-use mathlib.Core.List.{List, [], flatMap, List·Memᴰ·not-nil}
-use Prim.Native.Nat.{ℕ, zero, suc, _+_, _-_, _*_, _≤_}
+-- What a play begins with: tables of zeros, and a log of which nothing is written.
+use mathlib.Core.Path.{_≡_, refl, _∙_}
+use mathlib.Core.List.{List, [], List·Memᴰ·not-nil}
+use Prim.Native.Nat.{ℕ, zero, suc}
 use native.Mathlib.Omega.{arith}
 use lib.ListN.{length, getD, replicate, length-replicate}
-use Rattle.record.specs.Record.{numbers, steps, clauses}
-use Rattle.record.specs.Writing.{puts, filled, buffer}
+use Rattle.sizes.specs.Sizes.{nodesSize, storeSize}
+use Rattle.record.specs.Record.{bytes, steps, clauses}
+use Rattle.record.specs.Writing.{content, buffer, written}
+use Rattle.record.proofs.Writing.{content-in}
 use Rattle.totdb.specs.Nodes.{leafCount}
-use Rattle.cert.specs.Requests.{request}
-use Rattle.cert.specs.State.{Head, start, keys, fromIn, storedSteps}
+use Rattle.cert.specs.State.{Head, start, keys, fromIn}
 use Rattle.cert.proofs.Tables.{sized-nil}
-use Rattle.define.specs.Tables.{Lists, memory, Exact, flag, place, slot, SideOf, left-of, right-of}
-use Rattle.request.specs.Rows.{Rows}
-use Rattle.player.specs.Player.{headFits}
+use Rattle.rows.specs.Windows.{SideAt, left-at, right-at}
+use Rattle.rows.specs.Rows.{leafLiterals, Table}
+use Rattle.define.specs.Store.{slot}
+use Rattle.define.specs.Represents.{memory, Exact}
 use Rattle.player.proofs.Formed.{formed-start, head-low}
 use Rattle.commands.specs.Standing.{Standing}
 use Rattle.commands.specs.declared.Totals.{Totals}
@@ -26,93 +27,69 @@ zero-at zero i = refl
 zero-at (suc n) zero = refl
 zero-at (suc n) (suc i) = zero-at n i
 
-no-side : {u : _} → SideOf [] u → ⊥
-no-side (left-of n ls o r h e) = omega arith
-no-side (right-of n ls o l h e) = omega arith
+no-side : {p w : ℕ} {u : _} → SideAt [] p w u → ⊥
+no-side (left-at n ls o l r h e) = omega arith
+no-side (right-at n ls o l r h e) = omega arith
 
-lists-none : Lists (replicate 20416 0) (replicate 20416 0) []
-lists-none = record {
-  leaves-size = length-replicate {A = ℕ} 20416 0;
-  outputs-size = length-replicate {A = ℕ} 20416 0;
-  few = omega arith;
-  row = λ n h. absurd (omega arith);
-  sized = sized-nil;
-  once = λ s u a b e. absurd (no-side a);
+table-none : Table (replicate nodesSize 0) []
+table-none = record {
+  has = record {
+    room = omega (arith, length-replicate {A = ℕ} nodesSize 0);
+    row = λ n h. absurd (omega arith);
+    leaves = unfold leafCount leafLiterals in refl;
+  };
+  bounded = record {
+    few = omega arith;
+    few-leaves = unfold leafCount in omega arith;
+    short = λ n h. absurd (omega arith);
+    low = λ n i h. absurd (omega arith);
+    sized = sized-nil;
+    once = λ p q a b s u i j e. absurd (no-side i);
+  };
 }
-
-rows-none : Rows (replicate 2552 0) []
-rows-none = record { size = length-replicate {A = ℕ} 2552 0; row = λ n h. absurd (omega arith) }
-
-module _ (h : Head) (head : headFits h ≡ true) (c : ℕ) (small : c ≤ 65536) (z : Totals)
-    (cursor : z .out .cursor ≡ record { at = 0; full = false }) (step : z .out .step ≡ h .step) (stored : z .out .stored ≡ 0)
-    (count : z .out .clauses ≡ 0) (nodes : z .nodes ≡ 0) (leaves : z .leaves ≡ 0) (variable : z .variable ≡ h .variable) where
-  log-start : buffer (replicate c 0) (z .out .cursor) ≡ puts (filled c []) (flatMap numbers (start h .log))
-  unfolding start puts flatMap
-  log-start =
-      let whole : c ≡ c - 0 = omega arith in
-      rw cursor (ap (λ (n : ℕ). buffer (replicate n 0) (record { at = 0; full = false })) whole)
-
-  exact-start : Exact c [] (memory (replicate 40832 0) (replicate 21692 0) (replicate 32768 0) (replicate c 0) (z .out)) (start h)
-  unfolding start keys
-  exact-start = record {
-    small = small;
-    held-size = length-replicate {A = ℕ} 40832 0;
-    firsts-size = length-replicate {A = ℕ} 21692 0;
-    steps-size = length-replicate {A = ℕ} 32768 0;
-    log = log-start;
-    step = step;
-    clauses = count ∙ (unfold clauses in refl);
-    stored = stored ∙ (unfold storedSteps flatMap in refl);
-    steps = rw stored (unfold storedSteps flatMap in refl);
-    firsts = λ k u. zero-at 21692 (slot k) ∙ (unfold fromIn in refl);
-    unshown = λ n l u. (zero-at 21692 (68 * n + 66), zero-at 21692 (68 * n + 67));
-    held = λ n v d l a b. zero-at 40832 (place (request n v d)) ∙ (unfold flag in refl);
-    one = head-low h head .1;
-    used = λ k m. absurd (List·Memᴰ·not-nil m);
-    from-one = λ k m. absurd (List·Memᴰ·not-nil m);
-    from-few = λ k. unfold fromIn in omega arith;
-    few = unfold steps in omega (arith, head-low h head);
-    few-clauses = unfold steps clauses in omega arith;
-    few-stored = unfold steps storedSteps in omega arith;
-  }
-
-  standing-start : Standing h c (replicate 2552 0) (replicate 20416 0) (replicate 20416 0)
-      (memory (replicate 40832 0) (replicate 21692 0) (replicate 32768 0) (replicate c 0) (z .out)) z (start h)
-  standing-start = record {
-    formed = formed-start h head;
-    lists = unfold start in lists-none;
-    rows = unfold start in rows-none;
-    room = rw cursor;
-    exact = unfold start in exact-start;
-    nodes = unfold start in nodes;
-    leaves = unfold start leafCount in leaves;
-    variable = unfold start in variable;
-  }
 
 -- ---- a play begins
 
 abbrev pub begin : Head → Totals
-begin h = record {
-  out = record { cursor = record { at = 0; full = false }; step = h .step; stored = 0; clauses = 0 };
-  nodes = 0;
-  leaves = 0;
-  variable = h .variable;
-}
+begin h = record { out = record { at = 0; marks = 0; step = h .step; clauses = 0 }; nodes = 0; leaves = 0; variable = h .variable }
 
 module _ {script : List ℕ} {from : ℕ} {log : List ℕ} {h : Head} (l : Lent script from log h) where
-  pub standing-begin : Standing h (length log) (replicate 2552 0) (replicate 20416 0) (replicate 20416 0)
-      (memory (replicate 40832 0) (replicate 21692 0) (replicate 32768 0) log (begin h .out)) (begin h) (start h)
-  standing-begin =
-      subst
-      (λ (k : List ℕ). Standing h (length log) (replicate 2552 0) (replicate 20416 0) (replicate 20416 0)
-      (memory (replicate 40832 0) (replicate 21692 0) (replicate 32768 0) k (begin h .out)) (begin h) (start h)) (sym (l .zeros))
-      (standing-start h (l .head) (length log) (l .small) (begin h) refl refl refl refl refl refl refl)
+  nothing-written : content (buffer log 0) ≡ written (bytes (start h .log))
+  unfolding start bytes
+  nothing-written = content-in log 0 (omega arith)
 
--- ---- a log that is cleared
+  exact-start : Exact (length log) [] (memory (replicate storeSize 0) log (begin h .out)) (start h)
+  unfolding start keys
+  exact-start = record {
+    small = l .small;
+    logged = record { size = refl; is = unfold start in nothing-written; step = refl; clauses = unfold clauses in refl };
+    stores = record {
+      room = omega (arith, length-replicate {A = ℕ} storeSize 0);
+      firsts = record { is = λ k u. zero-at storeSize (slot [] k) ∙ (unfold fromIn in refl) };
+      trail = record { count = refl; is = refl };
+      holds = record { is = λ n v i. absurd (omega arith) };
+      blank = record { is = λ i b. zero-at storeSize i };
+    };
+    consistent = record {
+      one = head-low h (l .head) .1;
+      used = λ k m. absurd (List·Memᴰ·not-nil m);
+      entry = λ e m. absurd (List·Memᴰ·not-nil m);
+      from-one = λ k m. absurd (List·Memᴰ·not-nil m);
+      from-few = λ k. unfold fromIn in omega arith;
+      few = unfold steps in omega (arith, head-low h (l .head));
+      few-clauses = unfold steps clauses in omega arith;
+      few-stored = unfold bytes in omega arith;
+    };
+  }
 
-module _ (l d : List ℕ) (e : l ≡ replicate (length d) 0) where
-  pub cleared-length : length l ≡ length d
-  cleared-length = ap (λ (k : List ℕ). length k) e ∙ length-replicate {A = ℕ} (length d) 0
-
-  pub cleared : l ≡ replicate (length l) 0
-  cleared = e ∙ ap (λ (n : ℕ). replicate {A = ℕ} n 0) (sym cleared-length)
+  pub standing-begin : Standing h (length log) (replicate nodesSize 0) (memory (replicate storeSize 0) log (begin h .out)) (begin h) (start h)
+  standing-begin = record {
+    formed = formed-start h (l .head);
+    nodes-size = omega (arith, length-replicate {A = ℕ} nodesSize 0);
+    store-size = omega (arith, length-replicate {A = ℕ} storeSize 0);
+    table = unfold start in table-none;
+    exact = unfold start in exact-start;
+    nodes = unfold start in refl;
+    leaves = unfold start leafCount in refl;
+    variable = unfold start in refl;
+  }

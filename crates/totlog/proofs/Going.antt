@@ -6,7 +6,7 @@ use Prim.Native.Nat.{ℕ, zero, suc, _+_, _-_, _≤_, _<_}
 use native.Mathlib.Omega.{arith}
 use lib.ListN.{length, drop}
 use Rattle.cert.specs.State.{State, Head, start}
-use Rattle.define.specs.Tables.{memory}
+use Rattle.define.specs.Represents.{memory}
 use Rattle.player.specs.Places.{nextAt}
 use Rattle.player.specs.Player.{plays, outcome, Outcome}
 use Rattle.player.specs.Script.{Commands, closes, readCommands, stop, before}
@@ -25,18 +25,18 @@ use Rattle.totlog.proofs.Next.{After, rest-end, rest-refuse, rest-comma
 abbrev playsAll : Head → ℕ → Commands → ℕ → State → Outcome
 playsAll h c cs p s = plays h c (cs .ending) (cs .list) p s
 
--- The commands cs come to what those from `at` on come to, played from the state that the tables stand for.
-pub record Going (h : Head) (c : ℕ) (script : List ℕ) (cs : Commands) (ns ls os held firsts ks log : List ℕ) (z : Totals) (at place : ℕ)
+-- The commands cs come to what those from `at` on come to, played from the state that the tables represent.
+pub record Going (h : Head) (c : ℕ) (script : List ℕ) (cs : Commands) (ns store log : List ℕ) (z : Totals) (at place : ℕ)
     (closed : Bool) : Type 0 where
   pub state : State
-  pub standing : Standing h c ns ls os (memory held firsts ks log (z .out)) z state
+  pub standing : Standing h c ns (memory store log (z .out)) z state
   pub fuel : ℕ
   pub enough : length script - at ≤ fuel
   pub is : playsAll h c cs 0 (start h) ≡ playsAll h c (readCommands fuel closed (drop at script)) place state
 
-module _ {h : Head} {c : ℕ} {script : List ℕ} {cs : Commands} {ns ls os held firsts ks log : List ℕ} {z : Totals} {at place : ℕ} {closed : Bool}
-    (inside : at ≤ length script) (g : Going h c script cs ns ls os held firsts ks log z at place closed) where
-  -- It ends in the state that the tables stand for.
+module _ {h : Head} {c : ℕ} {script : List ℕ} {cs : Commands} {ns store log : List ℕ} {z : Totals} {at place : ℕ} {closed : Bool}
+    (inside : at ≤ length script) (g : Going h c script cs ns store log z at place closed) where
+  -- It ends in the state that the tables represent.
   ends-here : (n p : ℕ) → playsAll h c (readCommands (g .fuel) closed (drop at script)) place (g .state) ≡ outcome c n p (g .state)
       → (log′ : List ℕ) (z′ : Totals) → Reported c log′ z′ (g .state) → (r : Ending) → r .number ≡ n → r .place ≡ p → r .totals ≡ z′
       → Finished h c cs log′ r
@@ -87,13 +87,13 @@ module _ {h : Head} {c : ℕ} {script : List ℕ} {cs : Commands} {ns ls os held
     pub end-inside : e ≤ length script
     end-inside = after .within
 
-    module _ {ns′ ls′ os′ held′ firsts′ ks′ log′ : List ℕ} {x : Ended} (p : Played h c k (g .state) ns′ ls′ os′ held′ firsts′ ks′ log′ x) where
+    module _ {ns′ store′ log′ : List ℕ} {x : Ended} (p : Played h c k (g .state) ns′ store′ log′ x) where
       pub goes-on : x .number ≡ 0 → (place′ : ℕ) → place′ ≡ place + 1 → (closed′ : Bool) → closed′ ≡ closes k
-          → Going h c script cs ns′ ls′ os′ held′ firsts′ ks′ log′ (x .totals) e place′ closed′
+          → Going h c script cs ns′ store′ log′ (x .totals) e place′ closed′
       goes-on zero-number place′ a closed′ b = by p
         where
-          by : Played h c k (g .state) ns′ ls′ os′ held′ firsts′ ks′ log′ x
-              → Going h c script cs ns′ ls′ os′ held′ firsts′ ks′ log′ (x .totals) e place′ closed′
+          by : Played h c k (g .state) ns′ store′ log′ x
+              → Going h c script cs ns′ store′ log′ (x .totals) e place′ closed′
           by (went u q n st) = record {
             state = u;
             standing = st;
@@ -107,7 +107,7 @@ module _ {h : Head} {c : ℕ} {script : List ℕ} {cs : Commands} {ns ls os held
       pub stops : ¬ (x .number ≡ 0) → (r : Ending) → r .number ≡ x .number → r .place ≡ place + 1 → r .totals ≡ x .totals → Finished h c cs log′ r
       stops some r a b d = by p
         where
-          by : Played h c k (g .state) ns′ ls′ os′ held′ firsts′ ks′ log′ x → Finished h c cs log′ r
+          by : Played h c k (g .state) ns′ store′ log′ x → Finished h c cs log′ r
           by (went u q n st) = absurd (some n)
           by (stopped n q m rep) =
               ends-here n (place + 1)

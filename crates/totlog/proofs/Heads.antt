@@ -2,10 +2,10 @@
 use mathlib.Core.Path.{_≡_, refl, _∙_, ap}
 use mathlib.Core.Bool.{true, false}
 use mathlib.Core.List.{List, flatMap}
-use Prim.Native.Nat.{ℕ, _-_, _≤_, _<_}
+use Prim.Native.Nat.{ℕ, _≤_, _<_}
 use native.Mathlib.Omega.{arith}
 use borrow.Author.Tests.{le-leb, lt-leb}
-use lib.ListN.{length, replicate}
+use lib.ListN.{length}
 use Rattle.number.specs.Number.{groups, readAt}
 use Rattle.number.specs.declared.Reading.{Reading}
 use Rattle.number.specs.declared.Reading.the-variants.{Number, Bad}
@@ -13,22 +13,24 @@ use Rattle.number.proofs.Places.{readFrom-number}
 use Rattle.record.specs.Record.{bytes, steps, clauses}
 use Rattle.cert.specs.State.{Head, start}
 use Rattle.player.specs.Places.{headAt, withNumber}
-use Rattle.player.specs.Player.{outcome, headFits, mostBytes, played, playScript, refusedAtHead}
+use Rattle.player.specs.Player.{Outcome, outcome, headFits, mostBytes, played, playScript, refusedAtHead}
 use Rattle.player.specs.declared.HeadReading.{HeadReading}
 use Rattle.player.proofs.Places.{headed, script-head}
 use Rattle.player.proofs.Refusal.{played-true, played-false, script-true, script-false, script-headless}
-use Rattle.totlog.specs.Entry.{answerOf, commandsFrom, playedFrom}
+use Rattle.totlog.specs.Entry.{answerOf, commandsFrom, playedFrom, Tells}
+use Rattle.totlog.specs.declared.Answer.{Answer}
 
 -- ---- a script that is refused at its head
 
 module _ (c n : ℕ) where
-  pub refused-answer : record { number = n; place = 0; length = 0; steps = 0; clauses = 0; nodes = 0 } ≡ answerOf (refusedAtHead c n)
+  refused-answer : record { number = n; place = 0; length = 0; steps = 0; clauses = 0; nodes = 0 } ≡ answerOf (refusedAtHead c n)
   unfolding refusedAtHead outcome start bytes flatMap steps clauses
   refused-answer = refl
 
-  pub refused-log : replicate c 0 ≡ refusedAtHead c n .log
+  pub refused-tells : (log : List ℕ) (o : Outcome) (a : Answer) → o ≡ refusedAtHead c n
+      → a ≡ record { number = n; place = 0; length = 0; steps = 0; clauses = 0; nodes = 0 } → Tells o log a
   unfolding refusedAtHead outcome start bytes flatMap
-  refused-log = let whole : c ≡ c - 0 = omega arith in ap (λ (k : ℕ). replicate {A = ℕ} k 0) whole
+  refused-tells log o a p q = rw (p, q) (record { answer = refused-answer; front = refl })
 
 module _ (bs : List ℕ) (c : ℕ) where
   pub script-long : mostBytes < length bs → played bs c ≡ refusedAtHead c 1

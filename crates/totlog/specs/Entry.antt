@@ -6,7 +6,8 @@ use Prim.Native.Nat.{ℕ, _+_, _-_, _*_, _≤_, _/_, _%_}
 use lib.ListN.{length, getD, take, drop, replicate}
 use Rattle.record.specs.Record.{bytes, steps}
 use Rattle.cert.specs.State.{State, start, Head}
-use Rattle.define.specs.Tables.{memory}
+use Rattle.sizes.specs.Sizes.{mostBytes}
+use Rattle.define.specs.Represents.{memory}
 use Rattle.player.specs.Player.{Outcome, outcome, plays, headFits, played}
 use Rattle.player.specs.Script.{Commands, readCommands}
 use Rattle.commands.specs.Standing.{Standing, Reported}
@@ -42,11 +43,16 @@ abbrev pub answerAfter : ℕ → Ending → Answer
 answerAfter step r = record {
   number = r .number;
   place = r .place;
-  length = r .totals .out .cursor .at;
+  length = r .totals .out .at;
   steps = r .totals .out .step - step;
   clauses = r .totals .out .clauses;
   nodes = r .totals .nodes;
 }
+
+-- The answer, and the log up to its length, are those of the outcome.
+pub record Tells (o : Outcome) (log : List ℕ) (a : Answer) : Type 0 where
+  pub answer : a ≡ answerOf o
+  pub front : take (o .used) log ≡ take (o .used) (o .log)
 
 -- What a call leaves in the log and in the answer that it is lent.
 pub record Left (script log answer log-after answer-after : List ℕ) : Type 0 where
@@ -78,11 +84,11 @@ commandsFrom bs from = readCommands (length bs - from) false (drop from bs)
 abbrev pub playedFrom : List ℕ → ℕ → Head → ℕ → Outcome
 playedFrom bs from h c = plays h c (commandsFrom bs from .ending) (commandsFrom bs from .list) 0 (start h)
 
--- The tables stand for the state that a play begins with.
-pub record Begun (ns ls os held firsts steps log : List ℕ) (z : Totals) : Type 0 where
+-- The tables represent the state that a play begins with.
+pub record Begun (ns store log : List ℕ) (z : Totals) : Type 0 where
   pub head : Head
   pub capacity : ℕ
-  pub standing : Standing head capacity ns ls os (memory held firsts steps log (z .out)) z (start head)
+  pub standing : Standing head capacity ns (memory store log (z .out)) z (start head)
 
 -- A play that has ended in a state, which the log and the totals report.
 pub record Finished (h : Head) (c : ℕ) (cs : Commands) (log : List ℕ) (r : Ending) : Type 0 where
@@ -93,10 +99,9 @@ pub record Finished (h : Head) (c : ℕ) (cs : Commands) (log : List ℕ) (r : E
   pub counted : state .next-step ≡ h .step + Rattle.record.specs.Record.steps (state .log)
   pub few : length (state .nodes) ≤ 128
 
--- What the entry's parts are lent: a script and a log of 65,536 bytes at most, the log all zeros.
+-- What the entry's parts are lent: a script and a log that are not too long.
 pub record Lent (script : List ℕ) (from : ℕ) (log : List ℕ) (h : Head) : Type 0 where
-  pub short : length script ≤ 65536
+  pub short : length script ≤ mostBytes
   pub inside : from ≤ length script
-  pub small : length log ≤ 65536
-  pub zeros : log ≡ replicate (length log) 0
+  pub small : length log ≤ mostBytes
   pub head : headFits h ≡ true

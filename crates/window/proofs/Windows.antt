@@ -100,7 +100,7 @@ module _ (o : Bool) (at-step : Key → ℕ → ℕ) (n : ℕ) (x : Node) (v : �
             range-first summands (f + 1) m (omega arith) (summand-other (f + 1) (λ k. eqb-false v (f + 1) e (sym k)))
             ∙ rw j
 
-    -- What `put_derivation` writes, k the value of the first summand.
+    -- What `push_derivation` writes, k the value of the first summand.
     pub derivation-is : 1 < m → (k : ℕ) → k ≡ firstOther f v
         → 2 ∷ length (tokensOf o at-step n x f m v) ∷ (tokenNumbers (summands k) ++ tokenNumbers (flatMap (added summands) (range (k + 1) (f + m - k))))
         ≡ numbers (derivation (tokensOf o at-step n x f m v))
@@ -122,13 +122,13 @@ read-range g l f (suc m) h k =
     rw (drop-cons l f 0 (omega arith), more, first, z)
 
 -- What `put_window` writes.
-pub window-is : (firsts outs : List ℕ) (at-step : Key → ℕ → ℕ) (t : List Node) (n f m : ℕ) → f + m ≤ length outs
-    → Handed firsts outs at-step n (at t n) f m
+pub window-is : (row outs : List ℕ) (at-step : Key → ℕ → ℕ) (t : List Node) (n f m : ℕ) → f + m ≤ length outs
+    → Handed row outs at-step n (at t n) f m
     → flatMap numbers (flatMap (windowPair at-step n (at t n) f m) (range (f + 1) m))
     ++ numbers (sum 0 (units (signed true (take m (drop f outs))) ++ keep 0 0 []) 0)
     ≡ flatMap numbers (keyRecords at-step t (window n f m))
 unfolding flatMap keyRecords atLeastZero outputs signed keep
-window-is firsts outs at-step t n f m h handed =
+window-is row outs at-step t n f m h handed =
     rw (
       flatMap-append numbers (flatMap (windowPair at-step n (at t n) f m) (range (f + 1) m)),
       append-nil,

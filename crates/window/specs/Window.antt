@@ -1,8 +1,8 @@
--- What the code is handed for a window, and the two derivations of a value as one definition.
+-- What the code is handed for a window, the two derivations of a value as one definition, and the room that they take.
 use mathlib.Core.Path.{_≡_}
 use mathlib.Core.Bool.{Bool, true, false, cond}
 use mathlib.Core.List.{List, [], map}
-use Prim.Native.Nat.{ℕ, _+_, _-_, _*_, _≤_, _<_}
+use Prim.Native.Nat.{ℕ, _+_, _-_, _≤_, _<_}
 use lib.Dec.{eqb}
 use lib.ListN.{length, getD}
 use Rattle.pb.specs.Rules.{Token}
@@ -10,29 +10,32 @@ use Rattle.totdb.specs.Nodes.{Node, output, range}
 use Rattle.cert.specs.Definitions.{Key, addSequence, real, ifPart, onlyIfPart, total}
 use Rattle.derivation.specs.Operands.{nextStep}
 
--- For a window of node x of number n, offset f, m outputs: `firsts` has the first step of the real definition of value s at 68 * n + s,
--- `outputs` the output of value s at s - 1.
-pub record Handed (firsts outputs : List ℕ) (at-step : Key → ℕ → ℕ) (n : ℕ) (x : Node) (f m : ℕ) : Type 0 where
-  pub if-step : (s : ℕ) → f < s → s ≤ f + m → at-step (real n s) 0 ≡ getD firsts (68 * n + s) 0
-  pub only-if-step : (s : ℕ) → f < s → s ≤ f + m → at-step (real n s) 1 ≡ nextStep (getD firsts (68 * n + s) 0)
+-- ---- what the code is handed
+
+-- For a window of node x of number n, offset f, m outputs: `row` has the first step of the real definition of value s at s, `outputs` the
+-- output of value s at s - 1.
+pub record Handed (row outputs : List ℕ) (at-step : Key → ℕ → ℕ) (n : ℕ) (x : Node) (f m : ℕ) : Type 0 where
+  pub if-step : (s : ℕ) → f < s → s ≤ f + m → at-step (real n s) 0 ≡ getD row s 0
+  pub only-if-step : (s : ℕ) → f < s → s ≤ f + m → at-step (real n s) 1 ≡ nextStep (getD row s 0)
   pub literal : (s : ℕ) → f < s → s ≤ f + m → output x s ≡ getD outputs (s - 1) 0
 
--- A window inside the tables: 319 nodes, 68 values to a node, the outputs of its node. It has two outputs or more, and there are steps and a node
--- that it is handed for.
-pub record Bounds (firsts outputs : List ℕ) (node offset len : ℕ) : Type 0 where
-  pub nodes : node < 319
-  pub size : length firsts ≡ 21692
+-- A window inside the node's row and its outputs. It has two outputs or more, and there are steps and a node that it is handed for.
+pub record Bounds (row outputs : List ℕ) (offset len : ℕ) : Type 0 where
+  pub size : 66 ≤ length row
   pub values : offset + len ≤ 64
   pub several : 1 < len
   pub inside : offset + len ≤ length outputs
   pub at-step : Key → ℕ → ℕ
+  pub node : ℕ
   pub of : Node
-  pub handed : Handed firsts outputs at-step node of offset len
+  pub handed : Handed row outputs at-step node of offset len
 
 -- A value of a window.
 pub record Within (offset len value : ℕ) : Type 0 where
   pub above : offset < value
   pub below : value ≤ offset + len
+
+-- ---- the two derivations of a value
 
 -- The summand at s of the only-if of v, or of its if.
 unfoldable pub summand : Bool → (Key → ℕ → ℕ) → ℕ → Node → ℕ → ℕ → List Token
@@ -52,3 +55,16 @@ added p a = addSequence [] (p a)
 -- The first value of a window at offset f that is not v.
 unfoldable pub firstOther : ℕ → ℕ → ℕ
 firstOther f v = cond (eqb v (f + 1)) (f + 2) (f + 1)
+
+-- ---- room
+
+-- No summand takes more bytes: eight numbers of five bytes; nine with its addition.
+abbrev pub summandRoom : ℕ
+summandRoom = 40
+
+abbrev pub addedRoom : ℕ
+addedRoom = 45
+
+-- No derivation takes more bytes: kind and count, and an added summand for each of 64 values.
+abbrev pub derivationRoom : ℕ
+derivationRoom = 2890

@@ -1,14 +1,17 @@
 // Writers of the records of a window's key: the two derivations of each of its values, then the sum of its negated outputs.
-use record::Cursor;
+use record::Sum;
 ghost use mathlib.Core.Path.{_≡_};
 ghost use mathlib.Core.List.{List, flatMap};
-ghost use Prim.Native.Nat.{ℕ, _+_, _-_, _≤_, _<_};
+ghost use Prim.Native.Nat.{ℕ, _+_, _-_, _*_, _≤_, _<_};
 ghost use lib.ListN.{length};
 ghost use Rattle.record.specs.Record.{derivation, numbers, tokenNumbers};
 ghost use Rattle.record.specs.Writing.{buffer, Puts};
-ghost use Rattle.totdb.specs.Nodes.{Node, at, range};
+ghost use Rattle.totdb.specs.Nodes.{Node, range};
 ghost use Rattle.cert.specs.Definitions.{Key, keyRecords, window, windowIf, windowOnlyIf, windowPair};
-ghost use Rattle.window.specs.Window.{added, Bounds, firstOther, Handed, summand, tokensOf, Within};
+ghost use Rattle.window.specs.Window.{added, addedRoom, Bounds, derivationRoom, firstOther, Handed, summand, summandRoom, tokensOf, Within};
+
+// No derivation takes more bytes: kind and count, and a summand of nine numbers for each value, in five bytes each.
+const DERIVATION_ROOM: usize = 2890;
 
 // The first value of a window that is not `value`: the first summand that is not empty.
 fn first_other(offset: usize, value: usize) -> usize
@@ -36,118 +39,112 @@ fn count_tokens(offset: usize, len: usize, value: usize, only_if: bool) -> u32
 }
 
 // The summand at s of a derivation of `value`.
-fn put_summand(
-    log: &mut [u8],
-    c: Cursor,
-    firsts: &[u32],
+fn push_summand(
+    row: &[u32],
     outputs: &[u32],
-    node: usize,
+    log: &mut [u8],
+    at: usize,
     value: usize,
     s: usize,
     only_if: bool,
-) -> Cursor
-    requires { ⌜ ((f m : ℕ) × Bounds (now firsts) (now outputs) node f m × Within f m value × Within f m s) ⌝ }
-    ensures { λ r. ⌜ ((at-step : Key → ℕ → ℕ) (x : Node) (f m : ℕ)
-        → Handed (now (firsts .entry)) (now (outputs .entry)) at-step node x f m → Within f m value → Within f m s
-        → Puts (buffer (now (log .entry)) c) (tokenNumbers (summand «only_if» at-step node x value s)) (buffer (now (log .exit)) r)) ⌝ }
+) -> usize
+    requires { ⌜ ((f m : ℕ) × Bounds (now row) (now outputs) f m × Within f m value × Within f m s) ⌝ }
+    requires { ⌜ at + summandRoom ≤ length (now log) ⌝ }
+    ensures { λ r. ⌜ ((at-step : Key → ℕ → ℕ) (n : ℕ) (x : Node) (f m : ℕ)
+        → Handed (now (row .entry)) (now (outputs .entry)) at-step n x f m → Within f m value → Within f m s
+        → Puts (buffer (now (log .entry)) at) (tokenNumbers (summand «only_if» at-step n x value s)) (buffer (now (log .exit)) r)) ⌝ }
+    ensures { λ r. ⌜ r ≤ at + summandRoom ⌝ }
 {
-    let own = firsts[68 * node + value];
-    let other = firsts[68 * node + s];
+    let own = row[value];
+    let other = row[s];
     let literal = outputs[s - 1];
     if only_if {
         let this = derivation::next_step(own);
-        return derivation::put_only_if_part(log, c, value as u32, s as u32, this, other, literal);
+        return derivation::push_only_if_part(log, at, value as u32, s as u32, this, other, literal);
     }
     let that = derivation::next_step(other);
-    derivation::put_if_part(log, c, value as u32, s as u32, own, that, literal)
+    derivation::push_if_part(log, at, value as u32, s as u32, own, that, literal)
 }
 
 // The summand at s and its addition to what stands before.
-fn put_added(
-    log: &mut [u8],
-    c: Cursor,
-    firsts: &[u32],
+fn push_added(
+    row: &[u32],
     outputs: &[u32],
-    node: usize,
+    log: &mut [u8],
+    at: usize,
     value: usize,
     s: usize,
     only_if: bool,
-) -> Cursor
-    requires { ⌜ ((f m : ℕ) × Bounds (now firsts) (now outputs) node f m × Within f m value × Within f m s) ⌝ }
-    ensures { λ r. ⌜ ((at-step : Key → ℕ → ℕ) (x : Node) (f m : ℕ)
-        → Handed (now (firsts .entry)) (now (outputs .entry)) at-step node x f m → Within f m value → Within f m s
-        → Puts (buffer (now (log .entry)) c) (tokenNumbers (added (summand «only_if» at-step node x value) s)) (buffer (now (log .exit)) r)) ⌝ }
+) -> usize
+    requires { ⌜ ((f m : ℕ) × Bounds (now row) (now outputs) f m × Within f m value × Within f m s) ⌝ }
+    requires { ⌜ at + addedRoom ≤ length (now log) ⌝ }
+    ensures { λ r. ⌜ ((at-step : Key → ℕ → ℕ) (n : ℕ) (x : Node) (f m : ℕ)
+        → Handed (now (row .entry)) (now (outputs .entry)) at-step n x f m → Within f m value → Within f m s
+        → Puts (buffer (now (log .entry)) at) (tokenNumbers (added (summand «only_if» at-step n x value) s)) (buffer (now (log .exit)) r)) ⌝ }
+    ensures { λ r. ⌜ r ≤ at + addedRoom ⌝ }
 {
-    let d = put_summand(log, c, firsts, outputs, node, value, s, only_if);
+    let end = push_summand(row, outputs, log, at, value, s, only_if);
     if s == value {
-        return d;
+        return end;
     }
-    record::put(log, d, 2)
+    record::push(log, end, 2)
 }
 
 // The summands at the values of a window above `first`, each added to what stands before.
-fn put_rest(
-    log: &mut [u8],
-    c: Cursor,
-    firsts: &[u32],
+fn push_rest(
+    row: &[u32],
     outputs: &[u32],
-    node: usize,
+    log: &mut [u8],
+    at: usize,
     offset: usize,
     len: usize,
     value: usize,
     first: usize,
     only_if: bool,
-) -> Cursor
-    requires { ⌜ Bounds (now firsts) (now outputs) node offset len × Within offset len value × Within offset len first ⌝ }
-    ensures { λ r. ⌜ ((at-step : Key → ℕ → ℕ) (x : Node)
-        → Handed (now (firsts .entry)) (now (outputs .entry)) at-step node x offset len
-        → Puts (buffer (now (log .entry)) c)
-        (tokenNumbers (flatMap (added (summand «only_if» at-step node x value)) (range (first + 1) (offset + len - first))))
+) -> usize
+    requires { ⌜ Bounds (now row) (now outputs) offset len × Within offset len value × Within offset len first ⌝ }
+    requires { ⌜ at + addedRoom * (offset + len - first) ≤ length (now log) ⌝ }
+    ensures { λ r. ⌜ ((at-step : Key → ℕ → ℕ) (n : ℕ) (x : Node)
+        → Handed (now (row .entry)) (now (outputs .entry)) at-step n x offset len
+        → Puts (buffer (now (log .entry)) at)
+        (tokenNumbers (flatMap (added (summand «only_if» at-step n x value)) (range (first + 1) (offset + len - first))))
         (buffer (now (log .exit)) r)) ⌝ }
+    ensures { λ r. ⌜ r ≤ at + addedRoom * (offset + len - first) ⌝ }
 {
-    let mut d = c;
+    let mut end = at;
     for s in first + 1..offset + len + 1 {
-        d = put_added(log, d, firsts, outputs, node, value, s, only_if);
+        end = push_added(row, outputs, log, end, value, s, only_if);
     }
-    d
+    end
 }
 
-// A derivation of `value`: its only-if, or its if.
-fn put_derivation(
-    log: &mut [u8],
-    c: Cursor,
-    firsts: &[u32],
+// A derivation of `value`, where there is room: its only-if, or its if.
+fn push_derivation(
+    row: &[u32],
     outputs: &[u32],
-    node: usize,
+    log: &mut [u8],
+    at: usize,
     offset: usize,
     len: usize,
     value: usize,
     only_if: bool,
-) -> Cursor
-    requires { ⌜ Bounds (now firsts) (now outputs) node offset len × Within offset len value ⌝ }
-    ensures { λ r. ⌜ ((at-step : Key → ℕ → ℕ) (x : Node)
-        → Handed (now (firsts .entry)) (now (outputs .entry)) at-step node x offset len
-        → Puts (buffer (now (log .entry)) c) (numbers (derivation (tokensOf «only_if» at-step node x offset len value))) (buffer (now (log .exit)) r)) ⌝ }
+) -> usize
+    requires { ⌜ Bounds (now row) (now outputs) offset len × Within offset len value ⌝ }
+    requires { ⌜ at + derivationRoom ≤ length (now log) ⌝ }
+    ensures { λ r. ⌜ ((at-step : Key → ℕ → ℕ) (n : ℕ) (x : Node)
+        → Handed (now (row .entry)) (now (outputs .entry)) at-step n x offset len
+        → Puts (buffer (now (log .entry)) at) (numbers (derivation (tokensOf «only_if» at-step n x offset len value))) (buffer (now (log .exit)) r)) ⌝ }
+    ensures { λ r. ⌜ r ≤ at + derivationRoom ⌝ }
 {
     let first = first_other(offset, value);
-    let after_kind = record::put(log, c, 2);
-    let after_count = record::put(log, after_kind, count_tokens(offset, len, value, only_if));
-    let after_first = put_summand(
-        log,
-        after_count,
-        firsts,
+    let after_kind = record::push(log, at, 2);
+    let after_count = record::push(log, after_kind, count_tokens(offset, len, value, only_if));
+    let after_first = push_summand(row, outputs, log, after_count, value, first, only_if);
+    push_rest(
+        row,
         outputs,
-        node,
-        value,
-        first,
-        only_if,
-    );
-    put_rest(
         log,
         after_first,
-        firsts,
-        outputs,
-        node,
         offset,
         len,
         value,
@@ -156,85 +153,129 @@ fn put_derivation(
     )
 }
 
-// The if of a window's value.
-fn put_window_if(
-    log: &mut [u8],
-    c: Cursor,
-    firsts: &[u32],
+// A derivation near the end of the log.
+fn put_last_derivation(
+    row: &[u32],
     outputs: &[u32],
-    node: usize,
+    log: &mut [u8],
+    at: usize,
     offset: usize,
     len: usize,
     value: usize,
-) -> Cursor
-    requires { ⌜ Bounds (now firsts) (now outputs) node offset len × Within offset len value ⌝ }
-    ensures { λ r. ⌜ ((at-step : Key → ℕ → ℕ) (x : Node)
-        → Handed (now (firsts .entry)) (now (outputs .entry)) at-step node x offset len
-        → Puts (buffer (now (log .entry)) c) (numbers (windowIf at-step node x offset len value)) (buffer (now (log .exit)) r)) ⌝ }
+    only_if: bool,
+) -> usize
+    requires { ⌜ Bounds (now row) (now outputs) offset len × Within offset len value ⌝ }
+    ensures { λ r. ⌜ ((at-step : Key → ℕ → ℕ) (n : ℕ) (x : Node)
+        → Handed (now (row .entry)) (now (outputs .entry)) at-step n x offset len
+        → Puts (buffer (now (log .entry)) at) (numbers (derivation (tokensOf «only_if» at-step n x offset len value))) (buffer (now (log .exit)) r)) ⌝ }
 {
-    put_derivation(log, c, firsts, outputs, node, offset, len, value, false)
+    let mut apart = [0u8; DERIVATION_ROOM];
+    let n = push_derivation(row, outputs, &mut apart, 0, offset, len, value, only_if);
+    record::copy_out(log, at, &apart, n)
+}
+
+// A derivation of `value`, whole or not at all.
+fn put_derivation(
+    row: &[u32],
+    outputs: &[u32],
+    log: &mut [u8],
+    at: usize,
+    offset: usize,
+    len: usize,
+    value: usize,
+    only_if: bool,
+) -> usize
+    requires { ⌜ Bounds (now row) (now outputs) offset len × Within offset len value ⌝ }
+    ensures { λ r. ⌜ ((at-step : Key → ℕ → ℕ) (n : ℕ) (x : Node)
+        → Handed (now (row .entry)) (now (outputs .entry)) at-step n x offset len
+        → Puts (buffer (now (log .entry)) at) (numbers (derivation (tokensOf «only_if» at-step n x offset len value))) (buffer (now (log .exit)) r)) ⌝ }
+{
+    if record::fits(log.len(), at, DERIVATION_ROOM) {
+        return push_derivation(row, outputs, log, at, offset, len, value, only_if);
+    }
+    put_last_derivation(row, outputs, log, at, offset, len, value, only_if)
+}
+
+// The if of a window's value.
+fn put_window_if(
+    row: &[u32],
+    outputs: &[u32],
+    log: &mut [u8],
+    at: usize,
+    offset: usize,
+    len: usize,
+    value: usize,
+) -> usize
+    requires { ⌜ Bounds (now row) (now outputs) offset len × Within offset len value ⌝ }
+    ensures { λ r. ⌜ ((at-step : Key → ℕ → ℕ) (n : ℕ) (x : Node)
+        → Handed (now (row .entry)) (now (outputs .entry)) at-step n x offset len
+        → Puts (buffer (now (log .entry)) at) (numbers (windowIf at-step n x offset len value)) (buffer (now (log .exit)) r)) ⌝ }
+{
+    put_derivation(row, outputs, log, at, offset, len, value, false)
 }
 
 // The only-if of a window's value.
 fn put_window_only_if(
-    log: &mut [u8],
-    c: Cursor,
-    firsts: &[u32],
+    row: &[u32],
     outputs: &[u32],
-    node: usize,
+    log: &mut [u8],
+    at: usize,
     offset: usize,
     len: usize,
     value: usize,
-) -> Cursor
-    requires { ⌜ Bounds (now firsts) (now outputs) node offset len × Within offset len value ⌝ }
-    ensures { λ r. ⌜ ((at-step : Key → ℕ → ℕ) (x : Node)
-        → Handed (now (firsts .entry)) (now (outputs .entry)) at-step node x offset len
-        → Puts (buffer (now (log .entry)) c) (numbers (windowOnlyIf at-step node x offset len value)) (buffer (now (log .exit)) r)) ⌝ }
+) -> usize
+    requires { ⌜ Bounds (now row) (now outputs) offset len × Within offset len value ⌝ }
+    ensures { λ r. ⌜ ((at-step : Key → ℕ → ℕ) (n : ℕ) (x : Node)
+        → Handed (now (row .entry)) (now (outputs .entry)) at-step n x offset len
+        → Puts (buffer (now (log .entry)) at) (numbers (windowOnlyIf at-step n x offset len value)) (buffer (now (log .exit)) r)) ⌝ }
 {
-    put_derivation(log, c, firsts, outputs, node, offset, len, value, true)
+    put_derivation(row, outputs, log, at, offset, len, value, true)
 }
 
 // The derivations of all values of a window.
 fn put_values(
-    log: &mut [u8],
-    c: Cursor,
-    firsts: &[u32],
+    row: &[u32],
     outputs: &[u32],
-    node: usize,
+    log: &mut [u8],
+    at: usize,
     offset: usize,
     len: usize,
-) -> Cursor
-    requires { ⌜ Bounds (now firsts) (now outputs) node offset len ⌝ }
-    ensures { λ r. ⌜ ((at-step : Key → ℕ → ℕ) (x : Node)
-        → Handed (now (firsts .entry)) (now (outputs .entry)) at-step node x offset len
-        → Puts (buffer (now (log .entry)) c)
-        (flatMap numbers (flatMap (windowPair at-step node x offset len) (range (offset + 1) len)))
+) -> usize
+    requires { ⌜ Bounds (now row) (now outputs) offset len ⌝ }
+    ensures { λ r. ⌜ ((at-step : Key → ℕ → ℕ) (n : ℕ) (x : Node)
+        → Handed (now (row .entry)) (now (outputs .entry)) at-step n x offset len
+        → Puts (buffer (now (log .entry)) at)
+        (flatMap numbers (flatMap (windowPair at-step n x offset len) (range (offset + 1) len)))
         (buffer (now (log .exit)) r)) ⌝ }
 {
-    let mut d = c;
+    let mut end = at;
     for v in offset + 1..offset + len + 1 {
-        let after_if = put_window_if(log, d, firsts, outputs, node, offset, len, v);
-        d = put_window_only_if(log, after_if, firsts, outputs, node, offset, len, v);
+        let after_if = put_window_if(row, outputs, log, end, offset, len, v);
+        end = put_window_only_if(row, outputs, log, after_if, offset, len, v);
     }
-    d
+    end
 }
 
 // The records of a window's key.
 pub fn put_window(
-    log: &mut [u8],
-    c: Cursor,
-    firsts: &[u32],
+    row: &[u32],
     outputs: &[u32],
-    node: usize,
+    log: &mut [u8],
+    at: usize,
     offset: usize,
     len: usize,
-) -> Cursor
-    requires { ⌜ Bounds (now firsts) (now outputs) node offset len ⌝ }
-    ensures { λ r. ⌜ ((at-step : Key → ℕ → ℕ) (t : List Node)
-        → Handed (now (firsts .entry)) (now (outputs .entry)) at-step node (at t node) offset len
-        → Puts (buffer (now (log .entry)) c) (flatMap numbers (keyRecords at-step t (window node offset len))) (buffer (now (log .exit)) r)) ⌝ }
+) -> usize
+    requires { ⌜ Bounds (now row) (now outputs) offset len ⌝ }
+    ensures { λ r. ⌜ ((at-step : Key → ℕ → ℕ) (t : List Node) (n : ℕ)
+        → Handed (now (row .entry)) (now (outputs .entry)) at-step n (Rattle.totdb.specs.Nodes.at t n) offset len
+        → Puts (buffer (now (log .entry)) at) (flatMap numbers (keyRecords at-step t (window n offset len))) (buffer (now (log .exit)) r)) ⌝ }
 {
-    let d = put_values(log, c, firsts, outputs, node, offset, len);
+    let after_values = put_values(row, outputs, log, at, offset, len);
     let end = offset + len;
-    record::put_sum(log, d, 0, &outputs[offset..end], true, 0, 0)
+    let bare = Sum {
+        witness: 0,
+        own: 0,
+        literal: 0,
+    };
+    record::put_sum(log, after_values, &outputs[offset..end], true, bare)
 }

@@ -6,8 +6,8 @@ use borrow.Author.Needs.{needs}
 use Rattle.clauses.proofs.is_stored.Statement.{statement}
 use Rattle.clauses.proofs.is_stored.Tie as tie
 
-mul-has-first : tie.Need-mul-has-first
-mul-has-first c = search needs
+store-at-requires : tie.Need-store-at-requires
+store-at-requires c κs = search needs
 
 add-has-first : tie.Need-add-has-first
 add-has-first c = search needs
@@ -18,7 +18,8 @@ has-first-requires c κs = search needs
 returns : tie.Need-returns
 returns c =
     let a = c .before .before .before .before .args in
-    this-missing (a .firsts .now) (a .x) (a .value) (a .i) (a .j) (sym (c .before .has-first .ensures) ∙ not-true _ (c .if1 .taken))
+    this-missing (a .store .now) (a .x) (a .value) (a .i) (a .j)
+    (sym (rw (c .before .before .store-at .ensures) at (c .before .has-first .ensures)) ∙ not-true _ (c .if1 .taken))
 
 is-side-stored-requires : tie.Need-is-side-stored-requires
 is-side-stored-requires c κs = search needs
@@ -26,7 +27,7 @@ is-side-stored-requires c κs = search needs
 returns-2 : tie.Need-returns-2
 returns-2 c =
     let a = c .before .before .before .before .before .before .args in
-    left-missing (a .firsts .now) (a .x) (a .value) (a .i) (a .j) (sym (c .before .is-side-stored .ensures) ∙ not-true _ (c .if2 .taken))
+    left-missing (a .store .now) (a .x) (a .value) (a .i) (a .j) (sym (c .before .is-side-stored .ensures) ∙ not-true _ (c .if2 .taken))
 
 is-side-stored-requires-2 : tie.Need-is-side-stored-requires-2
 is-side-stored-requires-2 c κs = search needs
@@ -35,14 +36,15 @@ returns-3 : tie.Need-returns-3
 returns-3 c =
     let a = c .before .before .before .before .before .before .before .args in
     c .is-side-stored2 .ensures
-    ∙ right-last (a .firsts .now) (a .x) (a .value) (a .i) (a .j) (sym (c .before .before .before .before .has-first .ensures) ∙ not-false _ (c .before .before .before .if1 .left))
+    ∙ right-last (a .store .now) (a .x) (a .value) (a .i) (a .j)
+    (sym (rw (c .before .before .before .before .before .store-at .ensures) at (c .before .before .before .before .has-first .ensures)) ∙ not-false _ (c .before .before .before .if1 .left))
     (sym (c .before .before .is-side-stored .ensures) ∙ not-false _ (c .before .if2 .left))
 
 pub is-stored-spec : {M : Type 1} → statement M
 is-stored-spec =
     tie.close
     (tie.spec
-    mul-has-first
+    store-at-requires
     add-has-first
     has-first-requires
     returns

@@ -1,97 +1,91 @@
--- `commands::ask_join` meets its contract: each question in its turn.
 use mathlib.Core.Path.{sym, _∙_}
-use mathlib.Core.Bool.{true, false}
-use Prim.Native.Nat.{_*_}
 use native.Mathlib.Omega.{arith}
-use borrow.Author.Needs.{needs}
+use mathlib.Core.Bool.{true, false}
 use borrow.Author.Tests.{not-true, not-false}
 use Rattle.commands.proofs.Questions.{join-left, join-right, join-same, join-left-taken, join-right-taken, join-left-out, join-right-out, join-fits-both, side-fits}
+use borrow.Author.Needs.{needs}
 use Rattle.commands.proofs.ask_join.Statement.{statement}
 use Rattle.commands.proofs.ask_join.Tie as tie
+use Rattle.commands.proofs.ask_join.Reads as reads
+use Rattle.commands.proofs.ask_join.Lts as lts
+use Rattle.commands.proofs.fits.Reads as fits-reads
+use Rattle.nodes.proofs.len.Reads as len-reads
+use Rattle.nodes.proofs.taken.Reads as taken-reads
 
+-- src/lib.rt:102:9
 returns : tie.Need-returns
 returns c = λ h t r e. let a = c .before .before .before .args in sym (join-left h t (a .l) (a .r) (omega arith))
 
+-- src/lib.rt:105:9
 returns-2 : tie.Need-returns-2
 returns-2 c = λ h t r e. let a = c .before .before .before .before .before .args in sym (join-right h t (a .l) (a .r) (omega arith) (omega arith))
 
+-- src/lib.rt:108:9
 returns-3 : tie.Need-returns-3
 returns-3 c = λ h t r e. let a = c .before .before .before .before .before .before .before .before .args in sym (join-same h t (a .l) (a .r) (omega arith) (omega arith) (omega arith))
 
+-- src/lib.rt:110:8
 taken-requires : tie.Need-taken-requires
 taken-requires c κs = search needs
 
+-- src/lib.rt:111:9
 returns-4 : tie.Need-returns-4
-returns-4 c =
-    λ h t r e.
+returns-4 c = λ h t r e.
     let a = c .before .before .before .before .before .before .before .before .before .before .args in
-    sym (join-left-taken h t (a .l) (a .r) (omega arith) (omega arith) (c .before .before .if3 .left) (sym (c .before .taken .ensures t r e) ∙ c .if4 .taken))
+    sym (join-left-taken h t (a .l) (a .r) (omega arith) (omega arith) (c .before .before .if3 .left) (sym (c .before .taken .ensures t r (omega arith)) ∙ c .if4 .taken))
 
+-- src/lib.rt:113:8
 taken-requires-2 : tie.Need-taken-requires-2
 taken-requires-2 c κs = search needs
 
+-- src/lib.rt:114:9
 returns-5 : tie.Need-returns-5
-returns-5 c =
-    λ h t r e.
+returns-5 c = λ h t r e.
     let a = c .before .before .before .before .before .before .before .before .before .before .before .before .args in
-    sym (join-right-taken h t (a .l) (a .r) (omega arith) (omega arith) (c .before .before .before .before .if3 .left) (sym (c .before .before .before .taken .ensures t r e) ∙ c .before .before .if4 .left)
-    (sym (c .before .taken2 .ensures t r e) ∙ c .if5 .taken))
+    sym (join-right-taken h t (a .l) (a .r) (omega arith) (omega arith) (c .before .before .before .before .if3 .left) (sym (c .before .before .before .taken .ensures t r (omega arith)) ∙ c .before .before .if4 .left)
+    (sym (c .before .taken2 .ensures t r (omega arith)) ∙ c .if5 .taken))
 
-mul-l-len : tie.Need-mul-l-len
-mul-l-len c = search needs
+-- src/lib.rt:116:17
+len-requires : tie.Need-len-requires
+len-requires c κs = search needs
 
-mul-l-len-2 : tie.Need-mul-l-len-2
-mul-l-len-2 c = search needs
-
-shared-slice-read-l-len : tie.Need-shared-slice-read-l-len
-shared-slice-read-l-len c = search needs
-
-cast-l-len : tie.Need-cast-l-len
-cast-l-len c = omega (arith, c .shared-slice-known2 .given (8 * c .before .before .before .before .before .before .before .before .before .before .before .before .before .before .args .l .node))
-
+-- src/lib.rt:116:9
 fits-requires : tie.Need-fits-requires
 fits-requires c κs = search needs
 
+-- src/lib.rt:117:9
 returns-6 : tie.Need-returns-6
-returns-6 c =
-    λ h t r e.
-    let a = c .before .before .before .before .before .before .before .before .before .before .before .before .before .before .before .before .args in
-    sym (join-left-out h t (a .l) (a .r) (omega arith) (omega arith) (c .before .before .before .before .before .before .before .before .if3 .left) (sym (c .before .before .before .before .before .before .before .taken .ensures t r e) ∙ c .before .before .before .before .before .before .if4 .left)
-    (sym (c .before .before .before .before .before .taken2 .ensures t r e) ∙ c .before .before .before .before .if5 .left)
-    (side-fits (a .nodes .now) t r (a .l) (omega arith) false (sym (c .before .fits2 .ensures) ∙ not-true _ (c .if6 .taken))))
+returns-6 c = λ h t r e.
+    let a = c .before .before .before .before .before .before .before .before .before .before .before .before .before .before .before .args in
+    sym (join-left-out h t (a .l) (a .r) (omega arith) (omega arith) (c .before .before .before .before .before .before .before .if3 .left) (sym (c .before .before .before .before .before .before .taken .ensures t r (omega arith)) ∙ c .before .before .before .before .before .if4 .left)
+    (sym (c .before .before .before .before .taken2 .ensures t r (omega arith)) ∙ c .before .before .before .if5 .left)
+    (side-fits t (a .l) (c .before .before .len .result) (c .before .before .len .ensures t r (omega arith)) false (sym (c .before .fits2 .ensures) ∙ not-true _ (c .if6 .taken))))
 
-mul-r-len : tie.Need-mul-r-len
-mul-r-len c = search needs
+-- src/lib.rt:119:17
+len-requires-2 : tie.Need-len-requires-2
+len-requires-2 c κs = search needs
 
-mul-r-len-2 : tie.Need-mul-r-len-2
-mul-r-len-2 c = search needs
-
-shared-slice-read-r-len : tie.Need-shared-slice-read-r-len
-shared-slice-read-r-len c = search needs
-
-cast-r-len : tie.Need-cast-r-len
-cast-r-len c = omega (arith, c .shared-slice-known3 .given (8 * c .before .before .before .before .before .before .before .before .before .before .before .before .before .before .before .before .before .before .args .r .node))
-
+-- src/lib.rt:119:9
 fits-requires-2 : tie.Need-fits-requires-2
 fits-requires-2 c κs = search needs
 
+-- src/lib.rt:120:9
 returns-7 : tie.Need-returns-7
-returns-7 c =
-    λ h t r e.
-    let a = c .before .before .before .before .before .before .before .before .before .before .before .before .before .before .before .before .before .before .before .before .args in
-    sym (join-right-out h t (a .l) (a .r) (omega arith) (omega arith) (c .before .before .before .before .before .before .before .before .before .before .before .before .if3 .left) (sym (c .before .before .before .before .before .before .before .before .before .before .before .taken .ensures t r e) ∙ c .before .before .before .before .before .before .before .before .before .before .if4 .left)
-    (sym (c .before .before .before .before .before .before .before .before .before .taken2 .ensures t r e) ∙ c .before .before .before .before .before .before .before .before .if5 .left)
-    (side-fits (a .nodes .now) t r (a .l) (omega arith) true (sym (c .before .before .before .before .before .fits2 .ensures) ∙ not-false _ (c .before .before .before .before .if6 .left)))
-    (side-fits (a .nodes .now) t r (a .r) (omega arith) false (sym (c .before .fits3 .ensures) ∙ not-true _ (c .if7 .taken))))
+returns-7 c = λ h t r e.
+    let a = c .before .before .before .before .before .before .before .before .before .before .before .before .before .before .before .before .before .before .args in
+    sym (join-right-out h t (a .l) (a .r) (omega arith) (omega arith) (c .before .before .before .before .before .before .before .before .before .before .if3 .left) (sym (c .before .before .before .before .before .before .before .before .before .taken .ensures t r (omega arith)) ∙ c .before .before .before .before .before .before .before .before .if4 .left)
+    (sym (c .before .before .before .before .before .before .before .taken2 .ensures t r (omega arith)) ∙ c .before .before .before .before .before .before .if5 .left)
+    (side-fits t (a .l) (c .before .before .before .before .before .len .result) (c .before .before .before .before .before .len .ensures t r (omega arith)) true (sym (c .before .before .before .before .fits2 .ensures) ∙ not-false _ (c .before .before .before .if6 .left)))
+    (side-fits t (a .r) (c .before .before .len2 .result) (c .before .before .len2 .ensures t r (omega arith)) false (sym (c .before .fits3 .ensures) ∙ not-true _ (c .if7 .taken))))
 
+-- src/lib.rt:97:1
 returns-8 : tie.Need-returns-8
-returns-8 c =
-    λ h t r e.
-    let a = c .before .before .before .before .before .before .before .before .before .before .before .before .before .before .before .before .before .before .before .before .args in
-    sym (join-fits-both h t (a .l) (a .r) (omega arith) (omega arith) (c .before .before .before .before .before .before .before .before .before .before .before .before .if3 .left) (sym (c .before .before .before .before .before .before .before .before .before .before .before .taken .ensures t r e) ∙ c .before .before .before .before .before .before .before .before .before .before .if4 .left)
-    (sym (c .before .before .before .before .before .before .before .before .before .taken2 .ensures t r e) ∙ c .before .before .before .before .before .before .before .before .if5 .left)
-    (side-fits (a .nodes .now) t r (a .l) (omega arith) true (sym (c .before .before .before .before .before .fits2 .ensures) ∙ not-false _ (c .before .before .before .before .if6 .left)))
-    (side-fits (a .nodes .now) t r (a .r) (omega arith) true (sym (c .before .fits3 .ensures) ∙ not-false _ (c .if7 .left))))
+returns-8 c = λ h t r e.
+    let a = c .before .before .before .before .before .before .before .before .before .before .before .before .before .before .before .before .before .before .args in
+    sym (join-fits-both h t (a .l) (a .r) (omega arith) (omega arith) (c .before .before .before .before .before .before .before .before .before .before .if3 .left) (sym (c .before .before .before .before .before .before .before .before .before .taken .ensures t r (omega arith)) ∙ c .before .before .before .before .before .before .before .before .if4 .left)
+    (sym (c .before .before .before .before .before .before .before .taken2 .ensures t r (omega arith)) ∙ c .before .before .before .before .before .before .if5 .left)
+    (side-fits t (a .l) (c .before .before .before .before .before .len .result) (c .before .before .before .before .before .len .ensures t r (omega arith)) true (sym (c .before .before .before .before .fits2 .ensures) ∙ not-false _ (c .before .before .before .if6 .left)))
+    (side-fits t (a .r) (c .before .before .len2 .result) (c .before .before .len2 .ensures t r (omega arith)) true (sym (c .before .fits3 .ensures) ∙ not-false _ (c .if7 .left))))
 
 pub ask-join-spec : {M : Type 1} → statement M
 ask-join-spec =
@@ -104,16 +98,10 @@ ask-join-spec =
     returns-4
     taken-requires-2
     returns-5
-    mul-l-len
-    mul-l-len-2
-    shared-slice-read-l-len
-    cast-l-len
+    len-requires
     fits-requires
     returns-6
-    mul-r-len
-    mul-r-len-2
-    shared-slice-read-r-len
-    cast-r-len
+    len-requires-2
     fits-requires-2
     returns-7
     returns-8)

@@ -1,63 +1,30 @@
--- `commands::close` meets its contract: the record of the steps, and its end.
-use mathlib.Core.Path.{refl, sym, ap, _∙_}
-use Prim.Native.Nat.{_≤_}
-use native.Mathlib.Omega.{arith}
+use mathlib.Core.Path.{refl}
+use Rattle.commands.proofs.Writes.{listed, close-ends}
 use borrow.Author.Needs.{needs}
-use lib.ListN.{length}
-use Rattle.record.proofs.Writing.{after}
-use Rattle.commands.proofs.Ends.{at-within}
-use Rattle.commands.proofs.Writes.{close-ends}
 use Rattle.commands.proofs.close.Statement.{statement}
 use Rattle.commands.proofs.close.Tie as tie
+use Rattle.commands.proofs.close.Reads as reads
+use Rattle.commands.proofs.close.Lts as lts
+use Rattle.closing.proofs.put_deletion.Reads as put-deletion-reads
+use Rattle.commands.proofs.end.Reads as end-reads
 
-put-requires : tie.Need-put-requires
-put-requires c κs = search needs
+-- src/lib.rt:233:9
+put-deletion-requires : tie.Need-put-deletion-requires
+put-deletion-requires c κs = let r = c .before .before .before .before .before .pre in (r .state .nodes, r .state .stored, listed (r .standing))
 
-cast-put : tie.Need-cast-put
-cast-put c = search needs
-
-put-requires-2 : tie.Need-put-requires-2
-put-requires-2 c κs = search needs
-
-slice-aggregate-put-all : tie.Need-slice-aggregate-put-all
-slice-aggregate-put-all c =
-    let r = c .before .before .before .before .before .before .before .before .before .before .before .before .before .before .pre in
-    let x = r .5 .standing .exact in
-    x .stored ∙ ap (λ l. length l) (sym (x .steps))
-
-put-all-requires : tie.Need-put-all-requires
-put-all-requires c κs = search needs
-
+-- src/lib.rt:240:5
 end-requires : tie.Need-end-requires
-end-requires c κs =
-    let a = c .before .before .before .before .before .before .before .before .before .before .before .before .before .before .before .before .before .before .args in
-    let r = c .before .before .before .before .before .before .before .before .before .before .before .before .before .before .before .before .before .before .pre in
-    let w : a .t .out .cursor .at ≤ length (a .log .now) = at-within (r .5 .standing) in
-    omega (arith, w)
+end-requires c κs = search needs
 
+-- src/lib.rt:226:1
 same-length : tie.Need-same-length
 same-length c = search needs
 
+-- src/lib.rt:226:1
 returns : tie.Need-returns
 returns c =
-    let put-all-at = c .before .before .before .before .before .before in
-    let put2-at = put-all-at .before .before .before .before .before in
-    let put-at = put2-at .before .before .before .before in
-    let start = put-at .before .before .before .before .before .before in
-    λ h p ns ls os held firsts s st.
-    let a = start .args in
-    close-ends st _ _
-    (after (put-at .put .ensures) (after (put2-at .put2 .ensures) (put-all-at .put-all .ensures))) refl refl refl _ _ (c .before .before .end .ensures .0) (c .before .before .end .ensures .1)
+    λ h p s st.
+    close-ends st _ _ (c .before .before .before .put-deletion .ensures (s .nodes) (s .stored) (listed st)) refl refl refl _ (c .end .ensures)
 
 pub close-spec : {M : Type 1} → statement M
-close-spec =
-    tie.close
-    (tie.spec
-    put-requires
-    cast-put
-    put-requires-2
-    slice-aggregate-put-all
-    put-all-requires
-    end-requires
-    same-length
-    returns)
+close-spec = tie.close (tie.spec put-deletion-requires end-requires same-length returns)

@@ -1,93 +1,85 @@
--- `commands::join` meets its contract: a question that fails, or a new join.
-use mathlib.Core.Path.{refl, sym, ap, _∙_}
-use Prim.Native.Nat.{_+_, _≤_}
+use mathlib.Core.Path.{sym, _∙_, ap, refl}
 use native.Mathlib.Omega.{arith}
-use borrow.Author.Needs.{needs}
+use Prim.Native.Nat.{_+_}
 use Rattle.player.specs.declared.Command.{Command}
 use Rattle.commands.proofs.Ends.{refused-early}
 use Rattle.commands.proofs.Making.{joinable, joined-short, join-made}
+use borrow.Author.Needs.{needs}
 use Rattle.commands.proofs.join.Statement.{statement}
 use Rattle.commands.proofs.join.Tie as tie
+use Rattle.commands.proofs.join.Reads as reads
+use Rattle.commands.proofs.join.Lts as lts
+use Rattle.commands.proofs.ask_join.Reads as ask-join-reads
+use Rattle.nodes.proofs.add_join.Reads as add-join-reads
 
+-- src/lib.rt:131:9
 ask-join-requires : tie.Need-ask-join-requires
-ask-join-requires c κs =
-    let r = c .before .before .before .before .pre .ready in
-    let st = r .standing in
-    ((st .rows .size, omega (arith, st .nodes, st .lists .few)), (r .state .nodes, st .rows, sym (st .nodes)))
+ask-join-requires c κs = let r = c .before .before .pre .2 in (r .state .nodes, r .standing .table, sym (r .standing .nodes))
 
+-- src/lib.rt:133:9
 same-length : tie.Need-same-length
 same-length c = search needs
 
+-- src/lib.rt:133:9
 returns : tie.Need-returns
 returns c =
-    λ h p held firsts steps log s st.
-    let a = c .before .before .before .before .before .before .args in
+    λ h p store log s st.
+    let a = c .before .before .before .before .args in
     refused-early st (Command.Join (a .l) (a .r)) (c .before .ask-join .result) (omega (arith, c .if1 .taken))
-    (sym (c .before .ask-join .ensures h (s .nodes) (st .rows) (sym (st .nodes)))) _ refl refl
+    (sym (c .before .ask-join .ensures h (s .nodes) (st .table) (sym (st .nodes)))) _ refl refl
 
+-- src/lib.rt:138:9
 add-join-requires : tie.Need-add-join-requires
 add-join-requires c κs =
-    let ask-join-at = c .before .before .before .before in
-    let start = ask-join-at .before .before .before .before .before in
+    let start = c .before .before .before .before .before in
     let a = start .args in
-    let ready = start .pre .ready in
-    let st = ready .standing in
-    let asked = sym (ask-join-at .ask-join .ensures (ready .head) (ready .state .nodes) (st .rows) (sym (st .nodes))) ∙ c .before .before .before .if1 .left in
-    (ready .state .nodes, joinable st (a .l) (a .r) asked)
-
-add-t20 : tie.Need-add-t20
-add-t20 c = search needs
-
-cast-t21 : tie.Need-cast-t21
-cast-t21 c =
-    let add-join-at = c .before .before .before .before .before .before .before .before in
-    let if1-at = add-join-at .before .before .before .before in
-    let ask-join-at = if1-at .before in
-    let start = ask-join-at .before .before .before .before .before in
-    let a = start .args in
-    let ready = start .pre .ready in
-    let st = ready .standing in
-    let asked = sym (ask-join-at .ask-join .ensures (ready .head) (ready .state .nodes) (st .rows) (sym (st .nodes))) ∙ if1-at .if1 .left in
+    let r = start .pre .2 in
+    let st = r .standing in
+    let asked = sym (c .before .before .ask-join .ensures (r .head) (r .state .nodes) (st .table) (sym (st .nodes))) ∙ c .before .if1 .left in
     let j = joinable st (a .l) (a .r) asked in
-    let e = add-join-at .add-join .ensures (ready .state .nodes) j .0 in
-    let k : add-join-at .add-join .result ≤ 64 = omega (arith, e, joined-short st (a .l) (a .r) asked (a .t .variable)) in
-    omega (arith, k)
+    (omega (arith, st .nodes-size, j .room), (r .state .nodes, j))
 
-add-t22 : tie.Need-add-t22
-add-t22 c =
-    let add-join-at = c .before .before .before .before .before .before .before .before .before in
-    let if1-at = add-join-at .before .before .before .before in
-    let ask-join-at = if1-at .before in
-    let start = ask-join-at .before .before .before .before .before in
+-- src/lib.rt:142:16
+add-t14 : tie.Need-add-t14
+add-t14 c = search needs
+
+-- src/lib.rt:144:32
+cast-t15 : tie.Need-cast-t15
+cast-t15 c =
+    let start = c .before .before .before .before .before .before .before .before .before .before in
     let a = start .args in
-    let ready = start .pre .ready in
-    let st = ready .standing in
-    let asked = sym (ask-join-at .ask-join .ensures (ready .head) (ready .state .nodes) (st .rows) (sym (st .nodes))) ∙ if1-at .if1 .left in
+    let r = start .pre .2 in
+    let st = r .standing in
+    let asked = sym (c .before .before .before .before .before .before .before .ask-join .ensures (r .head) (r .state .nodes) (st .table) (sym (st .nodes))) ∙ c .before .before .before .before .before .before .if1 .left in
     let j = joinable st (a .l) (a .r) asked in
-    let e = add-join-at .add-join .ensures (ready .state .nodes) j .0 in
-    let k : add-join-at .add-join .result ≤ 64 = omega (arith, e, joined-short st (a .l) (a .r) asked (a .t .variable)) in
-    omega (arith, k, j .low)
+    let e = c .before .before .before .before .add-join .ensures (r .state .nodes) j .0 in
+    omega (arith, e, joined-short st (a .l) (a .r) asked (a .t .variable))
 
+-- src/lib.rt:144:19
+add-t16 : tie.Need-add-t16
+add-t16 c =
+    let start = c .before .before .before .before .before .before .before .before .before .before .before in
+    let a = start .args in
+    let r = start .pre .2 in
+    let st = r .standing in
+    let asked = sym (c .before .before .before .before .before .before .before .before .ask-join .ensures (r .head) (r .state .nodes) (st .table) (sym (st .nodes))) ∙ c .before .before .before .before .before .before .before .if1 .left in
+    let j = joinable st (a .l) (a .r) asked in
+    let e = c .before .before .before .before .before .add-join .ensures (r .state .nodes) j .0 in
+    let k = joined-short st (a .l) (a .r) asked (a .t .variable) in
+    omega (arith, e, k, j .low)
+
+-- src/lib.rt:126:1
 same-length-2 : tie.Need-same-length-2
 same-length-2 c = search needs
 
-same-length-3 : tie.Need-same-length-3
-same-length-3 c = search needs
-
-same-length-4 : tie.Need-same-length-4
-same-length-4 c = search needs
-
+-- src/lib.rt:126:1
 returns-2 : tie.Need-returns-2
 returns-2 c =
-    let add-join-at = c .before .before .before .before .before .before .before .before .before in
-    let if1-at = add-join-at .before .before .before .before in
-    let ask-join-at = if1-at .before in
-    let start = ask-join-at .before .before .before .before .before in
-    λ h p held firsts steps log s st.
-    let a = start .args in
-    let asked = sym (ask-join-at .ask-join .ensures h (s .nodes) (st .rows) (sym (st .nodes))) ∙ if1-at .if1 .left in
-    let added = add-join-at .add-join .ensures (s .nodes) (joinable st (a .l) (a .r) asked) in
-    join-made st (a .l) (a .r) asked _ _ _ (added .1) (added .2) _ refl refl refl refl (ap (λ k. a .t .variable + k) (added .0))
+    λ h p store log s st.
+    let a = c .before .before .before .before .before .before .before .before .before .before .before .args in
+    let asked = sym (c .before .before .before .before .before .before .before .before .ask-join .ensures h (s .nodes) (st .table) (sym (st .nodes))) ∙ c .before .before .before .before .before .before .before .if1 .left in
+    let added = c .before .before .before .before .before .add-join .ensures (s .nodes) (joinable st (a .l) (a .r) asked) in
+    join-made st (a .l) (a .r) asked _ (omega arith) (added .1) _ refl refl refl refl (ap (λ k. a .t .variable + k) (added .0))
 
 pub join-spec : {M : Type 1} → statement M
 join-spec =
@@ -97,10 +89,8 @@ join-spec =
     same-length
     returns
     add-join-requires
-    add-t20
-    cast-t21
-    add-t22
+    add-t14
+    cast-t15
+    add-t16
     same-length-2
-    same-length-3
-    same-length-4
     returns-2)

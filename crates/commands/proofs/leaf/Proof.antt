@@ -1,152 +1,115 @@
--- `commands::leaf` meets its contract: each question in its turn, then a leaf that is there, or a new one.
-use mathlib.Core.Path.{refl, sym, _∙_}
-use Prim.Native.Nat.{_≤_, _<_, _^_}
+use mathlib.Core.Path.{sym, _∙_, refl}
 use native.Mathlib.Omega.{arith}
+use Prim.Native.Nat.{_<_}
 use Rattle.pb.specs.Sum.{variable}
 use Rattle.player.specs.declared.Command.{Command}
-use Rattle.player.proofs.Formed.{head-low}
 use Rattle.player.proofs.Lengths.{leaves-few, leaves-full}
-use Rattle.player.proofs.Tree.{few-nodes}
-use Rattle.commands.proofs.Ends.{refused-early}
-use Rattle.commands.proofs.Making.{leaf-there, leaf-made}
 use Rattle.commands.proofs.Questions.{leaf-6, leaf-known, leaf-negated}
+use Rattle.commands.proofs.Ends.{refused-early}
+use Rattle.commands.proofs.Making.{leaf-there, leafable, leaf-made}
 use borrow.Author.Needs.{needs}
 use Rattle.commands.proofs.leaf.Statement.{statement}
 use Rattle.commands.proofs.leaf.Tie as tie
+use Rattle.commands.proofs.leaf.Reads as reads
+use Rattle.commands.proofs.leaf.Lts as lts
+use Rattle.nodes.proofs.add_leaf.Reads as add-leaf-reads
+use Rattle.nodes.proofs.known.Reads as known-reads
+use Rattle.pb.proofs.neg.Reads as neg-reads
 
+-- src/lib.rt:40:9
 returns : tie.Need-returns
 returns c =
-    λ h p held firsts steps log s e st.
-    let a = c .before .before .before .before .args in
+    λ h p store log s e st.
+    let a = c .before .before .args in
     refused-early st (Command.Leaf (a .literal)) 6 (omega arith) (leaf-6 h (s .nodes) (a .literal) (unfold variable in omega arith)) _ refl refl
 
+-- src/lib.rt:45:8
 known-requires : tie.Need-known-requires
-known-requires c κs =
-    let start = c .before .before .before .before .before .before in
-    let r = start .pre .0 .ready in
-    let st = r .standing in (
-      (st .rows .size, st .lists .leaves-size, omega (arith, st .nodes, st .lists .few)),
-      (start .args .outputs .now, r .state .nodes, st .rows, st .lists, sym (st .nodes)),
-    )
+known-requires c κs = let r = c .before .before .before .pre .2 in (r .state .nodes, r .standing .table, sym (r .standing .leaves))
 
+-- src/lib.rt:46:9
 same-length : tie.Need-same-length
 same-length c = search needs
 
-same-length-2 : tie.Need-same-length-2
-same-length-2 c = search needs
-
+-- src/lib.rt:46:9
 returns-2 : tie.Need-returns-2
 returns-2 c =
-    λ h p held firsts steps log s e st.
-    let a = c .before .before .before .before .before .before .before .before .args in
-    let there = sym (c .before .known .ensures (a .outputs .now) (s .nodes) (st .rows) (st .lists) (sym (st .nodes))) ∙ c .if2 .taken in
+    λ h p store log s e st.
+    let a = c .before .before .before .before .before .args in
+    let there = sym (c .before .known .ensures (s .nodes) (st .table) (sym (st .leaves))) ∙ c .if2 .taken in
     leaf-there st (a .literal) (leaf-known h (s .nodes) (a .literal) (unfold variable in omega arith) there) there _ refl refl
 
+-- src/lib.rt:51:38
 neg-requires : tie.Need-neg-requires
 neg-requires c κs = search needs
 
+-- src/lib.rt:51:8
 known-requires-2 : tie.Need-known-requires-2
-known-requires-2 c κs =
-    let start = c .before .before .before .before .before .before .before .before .before .before .before in
-    let r = start .pre .0 .ready in
-    let st = r .standing in (
-      (st .rows .size, st .lists .leaves-size, omega (arith, st .nodes, st .lists .few)),
-      (start .args .outputs .now, r .state .nodes, st .rows, st .lists, sym (st .nodes)),
-    )
+known-requires-2 c κs = let r = c .before .before .before .before .before .before .before .pre .2 in (r .state .nodes, r .standing .table, sym (r .standing .leaves))
 
-same-length-3 : tie.Need-same-length-3
-same-length-3 c = search needs
+-- src/lib.rt:52:9
+same-length-2 : tie.Need-same-length-2
+same-length-2 c = search needs
 
-same-length-4 : tie.Need-same-length-4
-same-length-4 c = search needs
-
+-- src/lib.rt:52:9
 returns-3 : tie.Need-returns-3
 returns-3 c =
-    let if2-at = c .before .before .before .before .before in
-    let known-at = if2-at .before in
-    let start = known-at .before .before .before .before .before .before .before in
-    λ h p held firsts steps log s e st.
-    let a = start .args in
-    let new = sym (known-at .known .ensures (a .outputs .now) (s .nodes) (st .rows) (st .lists) (sym (st .nodes))) ∙ if2-at .if2 .left in
-    let negated = sym (c .before .known2 .ensures (a .outputs .now) (s .nodes) (st .rows) (st .lists) (sym (st .nodes))) ∙ c .if3 .taken in
+    λ h p store log s e st.
+    let a = c .before .before .before .before .before .before .before .before .before .args in
+    let new = sym (c .before .before .before .before .before .known .ensures (s .nodes) (st .table) (sym (st .leaves))) ∙ c .before .before .before .before .if2 .left in
+    let negated = sym (c .before .known2 .ensures (s .nodes) (st .table) (sym (st .leaves))) ∙ c .if3 .taken in
     refused-early st (Command.Leaf (a .literal)) 7 (omega arith)
     (leaf-negated h (s .nodes) (a .literal) (unfold variable in omega arith) new (rw (c .before .before .neg .ensures) at negated)) _ refl refl
 
-same-length-5 : tie.Need-same-length-5
-same-length-5 c = search needs
+-- src/lib.rt:58:9
+same-length-3 : tie.Need-same-length-3
+same-length-3 c = search needs
 
-same-length-6 : tie.Need-same-length-6
-same-length-6 c = search needs
-
+-- src/lib.rt:58:9
 returns-4 : tie.Need-returns-4
 returns-4 c =
-    let neg-at = c .before .before .before .before in
-    let if2-at = neg-at .before .before .before in
-    let known-at = if2-at .before in
-    let start = known-at .before .before .before .before .before .before .before in
-    λ h p held firsts steps log s e st.
-    let a = start .args in
-    let new = sym (known-at .known .ensures (a .outputs .now) (s .nodes) (st .rows) (st .lists) (sym (st .nodes))) ∙ if2-at .if2 .left in
-    let negated = sym (c .before .before .before .known2 .ensures (a .outputs .now) (s .nodes) (st .rows) (st .lists) (sym (st .nodes))) ∙ c .before .before .if3 .left in
+    λ h p store log s e st.
+    let a = c .before .before .before .before .before .before .before .before .before .before .before .args in
+    let new = sym (c .before .before .before .before .before .before .before .known .ensures (s .nodes) (st .table) (sym (st .leaves))) ∙ c .before .before .before .before .before .before .if2 .left in
+    let negated = sym (c .before .before .before .known2 .ensures (s .nodes) (st .table) (sym (st .leaves))) ∙ c .before .before .if3 .left in
     refused-early st (Command.Leaf (a .literal)) 7 (omega arith)
-    (leaves-full h (s .nodes) (a .literal) (unfold variable in omega arith) new (rw (neg-at .neg .ensures) at negated) (omega (arith, st .leaves))) _ refl
-    refl
+    (leaves-full h (s .nodes) (a .literal) (unfold variable in omega arith) new (rw (c .before .before .before .before .neg .ensures) at negated) (omega (arith, st .leaves))) _ refl refl
 
+-- src/lib.rt:63:5
 add-leaf-requires : tie.Need-add-leaf-requires
 add-leaf-requires c κs =
-    let if2-at = c .before .before .before .before .before .before .before .before .before .before in
-    let if1-at = if2-at .before .before .before .before in
-    let start = if1-at .before .before .before .before in
-    let r = start .pre .0 .ready in
+    let start = c .before .before .before .before .before .before .before .before .before .before .before .before in
+    let a = start .args in
+    let r = start .pre .2 in
     let st = r .standing in
-    let low = head-low (r .head) (st .formed .head) .0 in
-    let small : start .args .literal ≤ 2 ^ 30 = omega (arith, low, start .pre .1, if1-at .if1 .left) in (
-      (
-        record { nodes-size = st .rows .size; leaves-size = st .lists .leaves-size; outputs-size = st .lists .outputs-size },
-        omega (arith, few-nodes (st .formed .treed), st .nodes),
-      ),
-      (r .state .nodes, st .rows, st .lists, sym (st .nodes), small),
-    )
+    let below : variable (a .literal) < r .head .variable = unfold variable in omega (arith, start .pre .3, c .before .before .before .before .before .before .before .before .before .before .if1 .left) in
+    let j = leafable st (a .literal) below (omega (arith, c .before .if4 .left)) in
+    (omega (arith, st .nodes-size, j .room), (r .state .nodes, j))
 
-add-t29 : tie.Need-add-t29
-add-t29 c =
-    let st = c .before .before .before .before .before .before .before .before .before .before .before .before .before .before .before .before .before .before .before .before .before .before .before .before .before .before .pre .0 .ready .standing in
-    omega (arith, few-nodes (st .formed .treed), st .nodes)
+-- src/lib.rt:67:16
+add-t18 : tie.Need-add-t18
+add-t18 c = search needs
 
-add-t30 : tie.Need-add-t30
-add-t30 c = search needs
+-- src/lib.rt:68:17
+add-t19 : tie.Need-add-t19
+add-t19 c = search needs
 
-same-length-7 : tie.Need-same-length-7
-same-length-7 c = search needs
+-- src/lib.rt:33:1
+same-length-4 : tie.Need-same-length-4
+same-length-4 c = search needs
 
-same-length-8 : tie.Need-same-length-8
-same-length-8 c = search needs
-
-same-length-9 : tie.Need-same-length-9
-same-length-9 c = search needs
-
+-- src/lib.rt:33:1
 returns-5 : tie.Need-returns-5
 returns-5 c =
-    let add-leaf-at = c .before .before .before .before .before .before .before .before in
-    let if4-at = add-leaf-at .before .before .before .before in
-    let if3-at = if4-at .before .before in
-    let known2-at = if3-at .before in
-    let neg-at = known2-at .before in
-    let if2-at = neg-at .before .before .before in
-    let known-at = if2-at .before in
-    let if1-at = known-at .before .before .before in
-    let start = if1-at .before .before .before .before in
-    λ h p held firsts steps log s e st.
-    let a = start .args in
-    let low = head-low h (st .formed .head) .0 in
-    let small : a .literal ≤ 2 ^ 30 = omega (arith, low, e, if1-at .if1 .left) in
-    let below : variable (a .literal) < h .variable = unfold variable in omega (arith, e, if1-at .if1 .left) in
-    let new = sym (known-at .known .ensures (a .outputs .now) (s .nodes) (st .rows) (st .lists) (sym (st .nodes))) ∙ if2-at .if2 .left in
-    let negated = sym (known2-at .known2 .ensures (a .outputs .now) (s .nodes) (st .rows) (st .lists) (sym (st .nodes))) ∙ if3-at .if3 .left in
-    let added = add-leaf-at .add-leaf .ensures (s .nodes) (st .rows) (st .lists) (sym (st .nodes)) small in
+    λ h p store log s e st.
+    let a = c .before .before .before .before .before .before .before .before .before .before .before .before .before .before .before .before .before .before .args in
+    let below : variable (a .literal) < h .variable = unfold variable in omega (arith, e, c .before .before .before .before .before .before .before .before .before .before .before .before .before .before .before .before .if1 .left) in
+    let new = sym (c .before .before .before .before .before .before .before .before .before .before .before .before .before .before .known .ensures (s .nodes) (st .table) (sym (st .leaves))) ∙ c .before .before .before .before .before .before .before .before .before .before .before .before .before .if2 .left in
+    let negated = sym (c .before .before .before .before .before .before .before .before .before .before .known2 .ensures (s .nodes) (st .table) (sym (st .leaves))) ∙ c .before .before .before .before .before .before .before .before .before .if3 .left in
+    let added = c .before .before .before .before .before .add-leaf .ensures (s .nodes) (leafable st (a .literal) below (omega (arith, c .before .before .before .before .before .before .before .if4 .left))) in
     leaf-made st (a .literal)
-    (leaves-few h (s .nodes) (a .literal) below new (rw (neg-at .neg .ensures) at negated) (omega (arith, st .leaves, if4-at .if4 .left))) new
-    _ _ _ (added .0) (added .1) _ refl refl refl refl refl
+    (leaves-few h (s .nodes) (a .literal) below new (rw (c .before .before .before .before .before .before .before .before .before .before .before .neg .ensures) at negated) (omega (arith, st .leaves, c .before .before .before .before .before .before .before .if4 .left))) new
+    _ (omega arith) added _ refl refl refl refl refl
 
 pub leaf-spec : {M : Type 1} → statement M
 leaf-spec =
@@ -155,20 +118,15 @@ leaf-spec =
     returns
     known-requires
     same-length
-    same-length-2
     returns-2
     neg-requires
     known-requires-2
-    same-length-3
-    same-length-4
+    same-length-2
     returns-3
-    same-length-5
-    same-length-6
+    same-length-3
     returns-4
     add-leaf-requires
-    add-t29
-    add-t30
-    same-length-7
-    same-length-8
-    same-length-9
+    add-t18
+    add-t19
+    same-length-4
     returns-5)

@@ -1,32 +1,40 @@
--- `define::define_window` meets its contract: the flag is set, or the rest of the window is written.
-use borrow.Author.Needs.{needs}
-use Rattle.totdb.specs.Nodes.{at}
+-- `define::define_window` meets its contract: the log is too short, or the records are written.
+use native.Mathlib.Omega.{arith}
+use Prim.Native.Nat.{_+_, _*_}
 use Rattle.cert.specs.Definitions.{window}
 use Rattle.cert.specs.State.{stepIn}
-use Rattle.define.specs.Tables.{memory, slot}
-use Rattle.define.proofs.Codes.{window-handed, window-count}
-use Rattle.define.proofs.Does.{exact-of}
-use Rattle.define.proofs.Looks.{full-defines, define-does}
+use Rattle.define.specs.Represents.{memory}
+use Rattle.define.proofs.Codes.{window-count}
+use Rattle.define.proofs.Looks.{define-grows, sims-define}
+use Rattle.define.proofs.Simulates.{sims-full, exact-of}
 use Rattle.define.proofs.Slots.{window-named}
+use Rattle.define.proofs.Windows.{window-of, window-slots, window-bounds, handed, bounds-of}
+use borrow.Author.Needs.{needs}
 use Rattle.define.proofs.define_window.Statement.{statement}
 use Rattle.define.proofs.define_window.Tie as tie
 
 returns : tie.Need-returns
 returns c =
-    let a = c .before .before .before .before .before .before .args in
-    λ h ls. full-defines (window (a .node) (a .offset) (a .len)) (memory h (a .firsts .now) (a .steps .now) (a .log .now) (a .o)) (c .if1 .taken)
+    let a = c .before .before .before .before .before .args in
+    λ ns. sims-full {m = memory (a .store .now) (a .log .now) (a .o)} (define-grows (window (a .s .side .node) (a .s .side .offset) (a .s .len))) (c .if1 .taken)
 
-mul-put-window : tie.Need-mul-put-window
-mul-put-window c = search needs
-
-mul-put-window-2 : tie.Need-mul-put-window-2
-mul-put-window-2 c = search needs
+store-at-requires : tie.Need-store-at-requires
+store-at-requires c κs =
+    let p = c .before .before .before .before .before .before .pre .1 in
+    let b = window-bounds (p .table .bounded) (p .represents) (p .holds .0 .window) in
+    omega (arith, b .nodes)
 
 add-put-window : tie.Need-add-put-window
-add-put-window c = search needs
+add-put-window c =
+    let p = c .before .before .before .before .before .before .before .pre .1 in
+    let b = window-bounds (p .table .bounded) (p .represents) (p .holds .0 .window) in
+    omega (arith, b .nodes, c .store-at .ensures)
 
-mul-put-window-3 : tie.Need-mul-put-window-3
-mul-put-window-3 c = search needs
+mul-put-window : tie.Need-mul-put-window
+mul-put-window c =
+    let p = c .before .before .before .before .before .before .before .pre .1 in
+    let b = window-bounds (p .table .bounded) (p .represents) (p .holds .0 .window) in
+    omega (arith, b .nodes, c .store-at .ensures)
 
 sub-put-window : tie.Need-sub-put-window
 sub-put-window c = search needs
@@ -35,42 +43,47 @@ part-put-window-start : tie.Need-part-put-window-start
 part-put-window-start c = search needs
 
 part-put-window-end : tie.Need-part-put-window-end
-part-put-window-end c = search needs
+part-put-window-end c =
+    let p = c .before .before .before .before .before .before .before .before .pre .1 in
+    let b = window-bounds (p .table .bounded) (p .represents) (p .holds .0 .window) in
+    omega (arith, b .room, c .before .store-at .ensures)
 
 put-window-requires : tie.Need-put-window-requires
 put-window-requires c κs =
-    let else = c .before .before .before in
-    let start = else .before .before .before .before .before .before in
-    let b = start .pre .1 .0 in
-    let s = start .pre .1 .1 .2 in
-    record {
-      nodes = b .nodes;
-      size = start .pre .0 .firsts-size;
-      values = b .values;
-      several = b .several;
-      inside = search needs;
-      at-step = stepIn (s .state .stored);
-      of = at (s .table) (start .args .node);
-      handed = window-handed (s .lists) (s .holds .0) (exact-of (else .if1 .left) (s .stands)) (else .if1 .left);
-    }
+    let place = c .before .before .before in
+    let else = place .before .before in
+    let p = else .before .before .before .before .before .pre .1 in
+    bounds-of (p .table .bounded) (exact-of (else .if1 .left) (p .represents)) (p .holds .0) (place .store-at .ensures)
 
-mul-store : tie.Need-mul-store
-mul-store c = search needs
+add-store-key : tie.Need-add-store-key
+add-store-key c =
+    let p = c .before .before .before .before .before .before .before .before .before .before .before .before .before .before .before .pre .1 in
+    let b = window-bounds (p .table .bounded) (p .represents) (p .holds .0 .window) in
+    omega (arith, b .small)
 
-add-store : tie.Need-add-store
-add-store c = search needs
+cast-store-key : tie.Need-cast-store-key
+cast-store-key c =
+    let p = c .before .before .before .before .before .before .before .before .before .before .before .before .before .before .before .pre .1 in
+    let b = window-bounds (p .table .bounded) (p .represents) (p .holds .0 .window) in
+    omega (arith, b .values)
 
-cast-store : tie.Need-cast-store
-cast-store c = search needs
+mul-store-key : tie.Need-mul-store-key
+mul-store-key c =
+    let p = c .before .before .before .before .before .before .before .before .before .before .before .before .before .before .before .pre .1 in
+    let b = window-bounds (p .table .bounded) (p .represents) (p .holds .0 .window) in
+    omega (arith, b .values)
 
-mul-store-2 : tie.Need-mul-store-2
-mul-store-2 c = search needs
+add-store-key-2 : tie.Need-add-store-key-2
+add-store-key-2 c =
+    let p = c .before .before .before .before .before .before .before .before .before .before .before .before .before .before .before .pre .1 in
+    let b = window-bounds (p .table .bounded) (p .represents) (p .holds .0 .window) in
+    omega (arith, b .values)
 
-add-store-2 : tie.Need-add-store-2
-add-store-2 c = search needs
-
-store-requires : tie.Need-store-requires
-store-requires c κs = search needs
+store-key-requires : tie.Need-store-key-requires
+store-key-requires c κs =
+    let p = c .before .before .before .before .before .before .before .before .before .before .before .before .before .before .before .pre .1 in
+    let b = window-bounds (p .table .bounded) (p .represents) (p .holds .0 .window) in
+    (omega (arith, b .above), b .inside, b .small, omega (arith, b .values))
 
 same-length : tie.Need-same-length
 same-length c = search needs
@@ -78,43 +91,44 @@ same-length c = search needs
 same-length-2 : tie.Need-same-length-2
 same-length-2 c = search needs
 
-same-length-3 : tie.Need-same-length-3
-same-length-3 c = search needs
-
 returns-2 : tie.Need-returns-2
-unfolding slot
 returns-2 c =
-    let stored = c .before .before .before .before in
+    let stored = c .before .before in
     let put = stored .before .before .before .before .before in
-    let else = put .before .before .before .before in
-    let a = else .before .before .before .before .before .before .args in
-    λ h ls.
-    let m = memory h (a .firsts .now) (a .steps .now) (a .log .now) (a .o) in
-    let k = window (a .node) (a .offset) (a .len) in
-    define-does k m (else .if1 .left) (λ t l w. window-named l w) _
-    (λ _ t s l w _ x. put .put-window .ensures (stepIn (s .stored)) t (window-handed l w x (else .if1 .left)))
-    (λ t f w. window-count (a .node) (a .offset) (a .len) t f) (stored .store .ensures .0) (stored .store .ensures .1)
+    let place = put .before .before .before .before in
+    let else = place .before .before in
+    let start = else .before .before .before .before .before in
+    let a = start .args in
+    let n = a .s .side .node in
+    let f = a .s .side .offset in
+    let m = a .s .len in
+    let m₀ = memory (a .store .now) (a .log .now) (a .o) in
+    let p = start .pre .1 in
+    let on = put .put-window .ensures (stepIn (p .state .stored)) (p .nodes) n
+    (handed (p .table .bounded) (exact-of (else .if1 .left) (p .represents)) (p .holds .0) (place .store-at .ensures)) .onward in
+    λ ns.
+    sims-define (window n f m) (a .s .window + 1) m₀ (else .if1 .left) (λ t u l w. window-named (l .bounded) (window-of (l .bounded) (a .s) (w .window)))
+    (λ t u l w. window-slots (l .bounded) (a .s) (w .window) .1) (2 * m + 1)
+    (λ _ t u l w _ x. put .put-window .ensures (stepIn (u .stored)) t n (handed (l .bounded) x w (place .store-at .ensures)))
+    on (λ t u g l w. window-count n f m t g) (stored .store-key .ensures)
 
 pub define-window-spec : {M : Type 1} → statement M
 define-window-spec =
     tie.close
     (tie.spec
     returns
-    mul-put-window
-    mul-put-window-2
+    store-at-requires
     add-put-window
-    mul-put-window-3
+    mul-put-window
     sub-put-window
     part-put-window-start
     part-put-window-end
     put-window-requires
-    mul-store
-    add-store
-    cast-store
-    mul-store-2
-    add-store-2
-    store-requires
+    add-store-key
+    cast-store-key
+    mul-store-key
+    add-store-key-2
+    store-key-requires
     same-length
     same-length-2
-    same-length-3
     returns-2)

@@ -1,16 +1,19 @@
 -- `define::put_real` meets its contract: each case writes the records of one of `Reals.antt`.
-use borrow.Author.Needs.{needs}
 use mathlib.Core.Path.{_≡_, ap}
 use mathlib.Core.List.{List}
-use Prim.Native.Nat.{ℕ, _+_, _≤_}
+use Prim.Native.Nat.{ℕ, _+_, _-_, _*_, _≤_}
 use native.Mathlib.Omega.{arith}
 use lib.ListN.{length}
-use Rattle.totdb.specs.Nodes.{Node, leaves, len}
+use Rattle.totdb.specs.Nodes.{Node, leaves, len, fromFirst}
 use Rattle.record.proofs.Writing.{after}
 use Rattle.pb.specs.Sum.{neg}
 use Rattle.define.proofs.Reals.{zero-is, above-is, within-is}
+use borrow.Author.Needs.{needs}
 use Rattle.define.proofs.put_real.Statement.{statement}
 use Rattle.define.proofs.put_real.Tie as tie
+
+bare-requires : tie.Need-bare-requires
+bare-requires c κs = search needs
 
 len-is : {l : List ℕ} (x : Node) → leaves x ≡ l → len x ≡ length l
 unfolding len
@@ -29,8 +32,11 @@ same-length c = search needs
 returns : tie.Need-returns
 returns c =
     let one = c .before .before in
-    let a = one .before .before .before .before .before .args in
-    λ x k. rw (← zero-is x (a .value) (omega arith), k .leaf-list) (one .put-sum .ensures)
+    let a = one .before .before .before .before .before .before .args in
+    λ x k. rw (← zero-is x (a .value) (omega arith), k .leaf-list) (rw (one .before .bare .ensures) at (one .put-sum .ensures))
+
+bare-requires-2 : tie.Need-bare-requires-2
+bare-requires-2 c κs = search needs
 
 put-sum-requires-2 : tie.Need-put-sum-requires-2
 put-sum-requires-2 c κs = search needs
@@ -41,22 +47,34 @@ same-length-2 c = search needs
 returns-2 : tie.Need-returns-2
 returns-2 c =
     let one = c .before .before in
-    let a = one .before .before .before .before .before .before .args in
+    let a = one .before .before .before .before .before .before .before .args in
     λ x k.
     let n = len-is x (k .leaf-list) in
-    rw (← above-is x (a .value) (omega arith) (omega arith), k .leaf-list) (one .put-sum2 .ensures)
+    rw (← above-is x (a .value) (omega arith) (omega arith), k .leaf-list) (rw (one .before .bare2 .ensures) at (one .put-sum2 .ensures))
 
-add-put-sum : tie.Need-add-put-sum
-add-put-sum c = search needs
+cast-literal : tie.Need-cast-literal
+cast-literal c = search needs
 
-add-put-sum-2 : tie.Need-add-put-sum-2
-add-put-sum-2 c = search needs
+sub-literal : tie.Need-sub-literal
+sub-literal c = search needs
 
-sub-put-sum : tie.Need-sub-put-sum
-sub-put-sum c = search needs
+mul-literal : tie.Need-mul-literal
+mul-literal c = search needs
 
-cast-put-sum : tie.Need-cast-put-sum
-cast-put-sum c = search needs
+add-literal : tie.Need-add-literal
+add-literal c = search needs
+
+add-t19 : tie.Need-add-t19
+add-t19 c = search needs
+
+add-t22 : tie.Need-add-t22
+add-t22 c = search needs
+
+sub-t23 : tie.Need-sub-t23
+sub-t23 c = search needs
+
+cast-t21 : tie.Need-cast-t21
+cast-t21 c = search needs
 
 put-sum-requires-3 : tie.Need-put-sum-requires-3
 put-sum-requires-3 c κs = search needs
@@ -64,14 +82,14 @@ put-sum-requires-3 c κs = search needs
 neg-requires : tie.Need-neg-requires
 neg-requires c κs = search needs
 
-add-put-sum-3 : tie.Need-add-put-sum-3
-add-put-sum-3 c =
-    let l = c .before .before .before .before .before .before .before .before .before .before .args .literal in
-    let k : c .before .neg .result ≤ l + 1 = rw (c .before .neg .ensures) (neg-low l) in
+add-t20 : tie.Need-add-t20
+add-t20 c =
+    let a = c .before .before .before .before .before .before .before .before .before .args in
+    let k : c .neg .result ≤ a .first + 2 * (a .value - 1) + 1 = rw (c .neg .ensures) (neg-low (a .first + 2 * (a .value - 1))) in
     search needs
 
-cast-put-sum-2 : tie.Need-cast-put-sum-2
-cast-put-sum-2 c = search needs
+cast-t21-2 : tie.Need-cast-t21-2
+cast-t21-2 c = search needs
 
 put-sum-requires-4 : tie.Need-put-sum-requires-4
 put-sum-requires-4 c κs = search needs
@@ -80,6 +98,7 @@ same-length-3 : tie.Need-same-length-3
 same-length-3 c = search needs
 
 returns-3 : tie.Need-returns-3
+unfolding fromFirst
 returns-3 c =
     let two = c .before .before in
     let negated = two .before .before in
@@ -87,7 +106,7 @@ returns-3 c =
     let a = one .before .before .before .before .before .before .args in
     λ x k.
     let n = len-is x (k .leaf-list) in
-    let w = k .literal (omega arith) (omega arith) in
+    let w = k .outputs (a .value) (omega arith) (omega arith) in
     rw (← within-is x (a .value) (omega arith) (omega arith), k .leaf-list, n, w)
     (after (one .put-sum3 .ensures) (rw (negated .neg .ensures) at (two .put-sum4 .ensures)))
 
@@ -95,20 +114,26 @@ pub put-real-spec : {M : Type 1} → statement M
 put-real-spec =
     tie.close
     (tie.spec
+    bare-requires
     put-sum-requires
     same-length
     returns
+    bare-requires-2
     put-sum-requires-2
     same-length-2
     returns-2
-    add-put-sum
-    add-put-sum-2
-    sub-put-sum
-    cast-put-sum
+    cast-literal
+    sub-literal
+    mul-literal
+    add-literal
+    add-t19
+    add-t22
+    sub-t23
+    cast-t21
     put-sum-requires-3
     neg-requires
-    add-put-sum-3
-    cast-put-sum-2
+    add-t20
+    cast-t21-2
     put-sum-requires-4
     same-length-3
     returns-3)

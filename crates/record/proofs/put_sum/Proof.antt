@@ -1,67 +1,39 @@
--- `record::put_sum` meets its contract: its six writers one after another are the numbers of the sum.
+-- `record::put_sum` meets its contract.
+use mathlib.Core.Path.{sym, _∙_}
 use borrow.Author.Needs.{needs}
-use Rattle.record.proofs.Sums.{sum-is}
-use Rattle.record.proofs.Writing.{after}
+use borrow.Author.Tests.{leb-true}
 use Rattle.record.proofs.put_sum.Statement.{statement}
 use Rattle.record.proofs.put_sum.Tie as tie
 
-put-requires : tie.Need-put-requires
-put-requires c κs = search needs
+fits-requires : tie.Need-fits-requires
+fits-requires c κs = search needs
 
-put-requires-2 : tie.Need-put-requires-2
-put-requires-2 c κs = search needs
-
-cast-put : tie.Need-cast-put
-cast-put c = search needs
-
-kept-requires : tie.Need-kept-requires
-kept-requires c κs = search needs
-
-add-put : tie.Need-add-put
-add-put c = search needs
-
-put-requires-3 : tie.Need-put-requires-3
-put-requires-3 c κs = search needs
-
-put-units-requires : tie.Need-put-units-requires
-put-units-requires c κs = search needs
-
-put-kept-requires : tie.Need-put-kept-requires
-put-kept-requires c κs = search needs
-
-put-requires-4 : tie.Need-put-requires-4
-put-requires-4 c κs = search needs
+push-sum-requires : tie.Need-push-sum-requires
+push-sum-requires c κs = (search needs, leb-true _ _ (sym (c .before .before .fits2 .ensures) ∙ c .before .if1 .taken))
 
 same-length : tie.Need-same-length
 same-length c = search needs
 
 returns : tie.Need-returns
-returns c =
-    let bound = c .before .before in
-    let own = bound .before .before .before .before in
-    let units = own .before .before .before .before in
-    let count = units .before .before .before .before in
-    let witness = count .before .before .before .before .before in
-    let kind = witness .before .before .before .before in
-    let a = kind .before .before .before .before .args in
-    rw (← sum-is (a .witness) (a .negated) (a .l .now) (a .own) (a .literal))
-    (after (kind .put .ensures)
-    (after (witness .put2 .ensures)
-    (after (rw (count .before .kept .ensures) at (count .put3 .ensures))
-    (after (units .put-units .ensures) (after (own .put-kept .ensures) (bound .put4 .ensures))))))
+returns c = search needs
+
+put-last-sum-requires : tie.Need-put-last-sum-requires
+put-last-sum-requires c κs = search needs
+
+same-length-2 : tie.Need-same-length-2
+same-length-2 c = search needs
+
+returns-2 : tie.Need-returns-2
+returns-2 c = search needs
 
 pub put-sum-spec : {M : Type 1} → statement M
 put-sum-spec =
     tie.close
     (tie.spec
-    put-requires
-    put-requires-2
-    cast-put
-    kept-requires
-    add-put
-    put-requires-3
-    put-units-requires
-    put-kept-requires
-    put-requires-4
+    fits-requires
+    push-sum-requires
     same-length
-    returns)
+    returns
+    put-last-sum-requires
+    same-length-2
+    returns-2)

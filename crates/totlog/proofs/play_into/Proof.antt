@@ -1,31 +1,65 @@
--- `totlog::play_into` meets its contract: the log cleared, the script played.
-use mathlib.Core.Path.{ap, _∙_}
+use mathlib.Core.Path.{sym, subst}
 use Prim.Native.Nat.{ℕ}
-use Rattle.player.specs.Player.{played}
-use Rattle.totlog.specs.Entry.{answerOf}
-use Rattle.totlog.proofs.Begin.{cleared, cleared-length}
+use lib.ListN.{length}
+use Rattle.player.specs.Player.{played, Padded}
+use Rattle.player.proofs.Refusal.{padded}
+use Rattle.totlog.proofs.Answered.{used-within, settled}
 use borrow.Author.Needs.{needs}
 use Rattle.totlog.proofs.play_into.Statement.{statement}
 use Rattle.totlog.proofs.play_into.Tie as tie
+use Rattle.totlog.proofs.play_into.Reads as reads
+use Rattle.totlog.proofs.play_into.Lts as lts
+use Rattle.record.proofs.clear.Reads as clear-reads
+use Rattle.totlog.proofs.play_script.Reads as play-script-reads
 
+-- src/lib.rt:186:9
+play-script-requires : tie.Need-play-script-requires
+play-script-requires c κs = search needs
+
+-- src/lib.rt:187:13
+cast-n : tie.Need-cast-n
+cast-n c = search needs
+
+-- src/lib.rt:188:19
+sub-clear : tie.Need-sub-clear
+sub-clear c =
+    let a = c .before .before .before .before .before .before .before .args in
+    used-within (subst (λ (n : ℕ). Padded n (played (a .script .now) (length (a .log .now)))) (sym (c .before .before .before .play-script .kept .1 .0)) (padded (length (a .log .now)) (a .script .now))) (c .before .before .before .play-script .ensures)
+
+-- src/lib.rt:188:19
+part-clear-start : tie.Need-part-clear-start
+part-clear-start c =
+    let a = c .before .before .before .before .before .before .before .args in
+    used-within (subst (λ (n : ℕ). Padded n (played (a .script .now) (length (a .log .now)))) (sym (c .before .before .before .play-script .kept .1 .0)) (padded (length (a .log .now)) (a .script .now))) (c .before .before .before .play-script .ensures)
+
+-- src/lib.rt:188:19
+part-clear-end : tie.Need-part-clear-end
+part-clear-end c = search needs
+
+-- src/lib.rt:188:5
 clear-requires : tie.Need-clear-requires
 clear-requires c κs = search needs
 
-play-script-requires : tie.Need-play-script-requires
-play-script-requires c κs = cleared _ (c .before .before .before .before .before .before .before .args .log .now) (c .before .before .before .clear .ensures)
-
+-- src/lib.rt:182:1
 same-length : tie.Need-same-length
 same-length c = search needs
 
+-- src/lib.rt:182:1
 returns : tie.Need-returns
 returns c =
-    let clear-at = c .before .before .before .before .before .before in
-    let a = clear-at .before .before .before .before .args in
-    let n = cleared-length _ (a .log .now) (clear-at .clear .ensures) in
-    let s = c .before .before .play-script .ensures in (
-      s .0 ∙ ap (λ (k : ℕ). answerOf (played (a .script .now) k)) n,
-      s .1 ∙ ap (λ (k : ℕ). played (a .script .now) k .log) n,
-    )
+    let a = c .before .before .before .before .before .before .before .before .before .before .before .args in
+    let t = c .before .before .before .before .before .before .before .play-script .ensures in
+    (t .answer, settled (subst (λ (n : ℕ). Padded n (played (a .script .now) (length (a .log .now)))) (sym (c .before .before .before .before .before .before .before .play-script .kept .1 .0)) (padded (length (a .log .now)) (a .script .now))) t _ (c .before .before .clear .ensures))
 
 pub play-into-spec : {M : Type 1} → statement M
-play-into-spec = tie.close (tie.spec clear-requires play-script-requires same-length returns)
+play-into-spec =
+    tie.close
+    (tie.spec
+    play-script-requires
+    cast-n
+    sub-clear
+    part-clear-start
+    part-clear-end
+    clear-requires
+    same-length
+    returns)

@@ -17,13 +17,13 @@ use Rattle.window.proofs.put_values.Statement.{statement}
 use Rattle.window.proofs.put_values.Tie as tie
 
 abbrev Inv-loop : tie.InvT-loop
-Inv-loop log₀ firsts outputs node offset len d₀ v₀ v-end log d v =
+Inv-loop row outputs log₀ at offset len end₀ v₀ v-end log end v =
     (offset + 1 ≤ v) × (v ≤ v-end) × (length log ≡ length log₀)
-    × ((at-step : Key → ℕ → ℕ) (x : Node) → Handed firsts outputs at-step node x offset len
-    → Puts (buffer log₀ d₀) (flatMap numbers (flatMap (windowPair at-step node x offset len) (range (offset + 1) (v - (offset + 1))))) (buffer log d))
+    × ((at-step : Key → ℕ → ℕ) (n : ℕ) (x : Node) → Handed row outputs at-step n x offset len
+    → Puts (buffer log₀ at) (flatMap numbers (flatMap (windowPair at-step n x offset len) (range (offset + 1) (v - (offset + 1))))) (buffer log end))
 
 abbrev μ-loop : tie.MeasureT-loop
-μ-loop log₀ firsts outputs node offset len d₀ v₀ v-end log d v = v-end - v
+μ-loop row outputs log₀ at offset len end₀ v₀ v-end log end v = v-end - v
 
 add-v : tie.Need-add-v Inv-loop μ-loop
 add-v c = search needs
@@ -39,7 +39,7 @@ unfolding flatMap range
 loop-holds c =
     let a = c .before .before .before .args in
     let none : a .offset + 1 - (a .offset + 1) ≡ 0 = omega arith in
-    (search needs, search needs, refl, λ at-step x handed. rw none nothing)
+    (search needs, search needs, refl, λ at-step n x handed. rw none nothing)
 
 put-window-if-requires : tie.Need-put-window-if-requires Inv-loop μ-loop
 put-window-if-requires c κs = search needs
@@ -64,21 +64,21 @@ loop-again c =
       search needs,
       search needs,
       search needs,
-      λ at-step x handed.
-          rw (range-more (windowPair at-step (a .node) x (a .offset) (a .len)) (a .offset + 1) (loop .v) from, flatMap-append numbers)
-          (after (loop .inv .3 at-step x handed)
-          (after (first .put-window-if .ensures at-step x handed) (after (second .put-window-only-if .ensures at-step x handed) nothing))),
+      λ at-step n x handed.
+          rw (range-more (windowPair at-step n x (a .offset) (a .len)) (a .offset + 1) (loop .v) from, flatMap-append numbers)
+          (after (loop .inv .3 at-step n x handed)
+          (after (first .put-window-if .ensures at-step n x handed) (after (second .put-window-only-if .ensures at-step n x handed) nothing))),
     )
 
 same-length : tie.Need-same-length Inv-loop μ-loop
 same-length c = search needs
 
 returns : tie.Need-returns Inv-loop μ-loop
-returns c = λ at-step x handed.
+returns c = λ at-step n x handed.
     let loop = c .before .loop in
     let a = c .before .before .before .before .before .args in
     let all : loop .v - (a .offset + 1) ≡ a .len = omega arith in
-    rw all at (loop .inv .3 at-step x handed)
+    rw all at (loop .inv .3 at-step n x handed)
 
 pub put-values-spec : {M : Type 1} → statement M
 put-values-spec =

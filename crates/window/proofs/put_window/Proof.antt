@@ -34,14 +34,14 @@ same-length : tie.Need-same-length
 same-length c = search needs
 
 returns : tie.Need-returns
-returns c = λ at-step t handed.
+returns c = λ at-step t n handed.
     let sum = c .before .before in
     let values = sum .before .before .before .before .before in
     let start = values .before .before .before .before .before in
     let a = start .args in
     let all : a .offset + a .len - a .offset ≡ a .len = omega arith in
-    rw (← window-is (a .firsts .now) (a .outputs .now) at-step t (a .node) (a .offset) (a .len) (start .pre .inside) handed)
-    (after (values .put-values .ensures at-step (at t (a .node)) handed) (rw all at (sum .put-sum .ensures)))
+    rw (← window-is (a .row .now) (a .outputs .now) at-step t n (a .offset) (a .len) (start .pre .inside) handed)
+    (after (values .put-values .ensures at-step n (at t n) handed) (rw all at (sum .put-sum .ensures)))
 
 pub put-window-spec : {M : Type 1} → statement M
 put-window-spec =

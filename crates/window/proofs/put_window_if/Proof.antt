@@ -13,7 +13,7 @@ same-length c = search needs
 
 returns : tie.Need-returns
 unfolding windowIf summand tokensOf
-returns c = λ at-step x handed. c .before .before .put-derivation .ensures at-step x handed
+returns c = c .before .before .put-derivation .ensures
 
 pub put-window-if-spec : {M : Type 1} → statement M
 put-window-if-spec = tie.close (tie.spec put-derivation-requires same-length returns)

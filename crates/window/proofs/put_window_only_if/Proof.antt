@@ -13,7 +13,7 @@ same-length c = search needs
 
 returns : tie.Need-returns
 unfolding windowOnlyIf summand tokensOf
-returns c = λ at-step x handed. c .before .before .put-derivation .ensures at-step x handed
+returns c = c .before .before .put-derivation .ensures
 
 pub put-window-only-if-spec : {M : Type 1} → statement M
 put-window-only-if-spec = tie.close (tie.spec put-derivation-requires same-length returns)

@@ -1,0 +1,3 @@
+-- What the record of a close has.
+pub mod Counting
+pub mod Marks

@@ -1,0 +1,68 @@
+-- `number::push` meets its contract: one group, two, or more.
+use mathlib.Core.Path.{ap}
+use native.Mathlib.Omega.{arith}
+use lib.ListN.{length}
+use Rattle.number.proofs.Laws.{encode-last, encode-two, encode-length}
+use Rattle.number.proofs.Places.{sets-written}
+use borrow.Author.Needs.{needs}
+use Rattle.number.proofs.push.Statement.{statement}
+use Rattle.number.proofs.push.Tie as tie
+
+cast-log : tie.Need-cast-log
+cast-log c = search needs
+
+slice-write-log : tie.Need-slice-write-log
+slice-write-log c = search needs
+
+add-result : tie.Need-add-result
+add-result c = search needs
+
+same-length : tie.Need-same-length
+same-length c = search needs
+
+returns : tie.Need-returns
+returns c =
+    let a = c .before .before .args in
+    let e = encode-last (a .x) (c .if1 .taken) in
+    (omega (arith, ap length e), sets-written (a .log .now) (a .at) (a .x) _ e (omega arith))
+
+push-two-requires : tie.Need-push-two-requires
+push-two-requires c κs = search needs
+
+add-result-2 : tie.Need-add-result-2
+add-result-2 c = search needs
+
+same-length-2 : tie.Need-same-length-2
+same-length-2 c = search needs
+
+returns-2 : tie.Need-returns-2
+returns-2 c =
+    let e = encode-two (c .before .before .before .before .before .before .before .args .x) (omega arith) (omega arith) in
+    (omega (arith, ap length e), c .before .before .push-two .ensures)
+
+push-groups-requires : tie.Need-push-groups-requires
+push-groups-requires c κs =
+    omega (arith, encode-length (c .before .before .before .before .args .x) 5 (omega arith) .1 (omega arith))
+
+same-length-3 : tie.Need-same-length-3
+same-length-3 c = search needs
+
+returns-3 : tie.Need-returns-3
+returns-3 c = search needs
+
+pub push-spec : {M : Type 1} → statement M
+push-spec =
+    tie.close
+    (tie.spec
+    cast-log
+    slice-write-log
+    add-result
+    same-length
+    returns
+    push-two-requires
+    add-result-2
+    same-length-2
+    returns-2
+    push-groups-requires
+    same-length-3
+    returns-3)

@@ -1,0 +1,65 @@
+// The limits of document 01 and the sizes of the tables, each named once. `specs/Sizes.antt` has them for contracts.
+
+// ---- limits
+
+// The largest variable of a head, and the largest step.
+pub const MOST_HEAD: u32 = 1000000;
+
+// The bytes of a script, and those of a log.
+pub const MOST_BYTES: usize = 65536;
+
+pub const MOST_LEAVES: usize = 64;
+
+pub const MOST_JOINS: usize = 255;
+
+pub const MOST_NODES: usize = MOST_LEAVES + MOST_JOINS;
+
+// The values of a node: no more than there are leaves.
+pub const WIDTH: usize = MOST_LEAVES;
+
+// The counter of steps stops here. No log reaches it: a step takes two bytes at least.
+pub const STEP_STOP: u32 = 2000000;
+
+// ---- the table of the nodes: the literals of the leaves in the order of their making, then a row for each node
+
+pub const ROW: usize = 78;
+
+// In a row: the length; the output of value 1; 1 for a join, 0 for a leaf; 1 if it stands under a join, else 0; the left
+// side; the right side; the leaf list.
+pub const LEN: usize = 0;
+
+pub const FIRST: usize = 1;
+
+pub const KIND: usize = 2;
+
+pub const TAKEN: usize = 3;
+
+pub const LEFT: usize = 4;
+
+pub const RIGHT: usize = 9;
+
+pub const LIST: usize = 14;
+
+// Of a side: node, offset, limit; its length; the place of its window's first steps.
+pub const SIDE_LEN: usize = 3;
+
+pub const SIDE_WINDOW: usize = 4;
+
+pub const NODES_SIZE: usize = MOST_LEAVES + ROW * MOST_NODES;
+
+// ---- the store: the places of the stored definitions in the order of their writing, then a row for each node
+
+// No definition takes fewer than eight bytes of a log.
+pub const TRAIL: usize = 8192;
+
+pub const STORE_ROW: usize = 134;
+
+// In a row: the first steps of the real definitions of the values 0 to 65; of a join, those of the window of its left side (the
+// sum of value 0, the rest), and of its right side; the directions held of the values 1 to 64, as a request names them.
+pub const LEFT_WINDOW: usize = 66;
+
+pub const RIGHT_WINDOW: usize = 68;
+
+pub const HELD: usize = 69;
+
+pub const STORE_SIZE: usize = TRAIL + STORE_ROW * MOST_NODES;
