@@ -38,7 +38,7 @@ pub record Reported (c : ℕ) (log : List ℕ) (z : Totals) (s : State) : Type 0
   pub clauses : z .out .clauses ≡ length (Rattle.record.specs.Record.clauses (s .log))
   pub nodes : z .nodes ≡ length (s .nodes)
 
--- What a command comes to that is put in the state s.
+-- What a command comes to that is put in the state s. Where it is refused the tables are left open: play ends there.
 pub data Played (h : Head) (c : ℕ) (k : Command) (s : State) (ns store log : List ℕ) (e : Ended) : Type 0 where
   went : (u : State) → play h c k s ≡ accepted u → e .number ≡ 0
       → Standing h c ns (memory store log (e .totals .out)) (e .totals) u → Played h c k s ns store log e

@@ -239,7 +239,8 @@ fn close(nodes: &[u32], store: &[u32], log: &mut [u8], t: Totals) -> Ended
     end(log.len(), t, closed)
 }
 
-// A command: refused at the first question that fails, or done. What it wrote in vain lies past the log's length.
+// A command: refused at the first question that fails, or done. What it wrote in vain lies from the place
+// on that is kept.
 pub fn command(
     nodes: &mut [u32],
     store: &mut [u32],

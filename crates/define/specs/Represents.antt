@@ -31,6 +31,7 @@ pub record Logged (c : ℕ) (m : Memory) (s : State) : Type 0 where
   pub step : m .out .step ≡ s .next-step
   pub clauses : m .out .clauses ≡ length (Rattle.record.specs.Record.clauses (s .log))
 
+-- What no region speaks of is left open: the trail from the marks on, places of keys that are not used, held directions of leaves.
 pub record Stores (t : List Node) (m : Memory) (s : State) : Type 0 where
   pub room : storeAt (length t) ≤ length (m .store)
   pub firsts : Firsts t (m .store) (s .stored)
@@ -67,7 +68,7 @@ pub record Over (c : ℕ) (t : List Node) (m : Memory) (s : State) : Type 0 wher
   pub more : c < length (bytes (s .log))
 
 -- The memory represents the state s over the nodes t, as long as all that was written fits into the log of c bytes. Else the place of the next
--- byte lies past the log, and the tables are left open: the command is refused as a whole.
+-- byte lies past the log, and the store is left open: the command is refused as a whole.
 pub data Represents (c : ℕ) (t : List Node) (m : Memory) (s : State) : Type 0 where
   exact : Exact c t m s → Represents c t m s
   over : Over c t m s → Represents c t m s

@@ -211,7 +211,7 @@ fn define_window(outputs: &[u32], store: &mut [u32], log: &mut [u8], o: Out, s: 
     store_key(store, o, end, s.window + 1, 2 * len as u32 + 1)
 }
 
-// The window of the side at `at`: the sum of value 0, the real definitions that are missing, then the rest.
+// The window of a side: the sum of value 0, the real definitions that are missing, then the rest.
 fn look_up_window(nodes: &[u32], store: &mut [u32], log: &mut [u8], o: Out, s: Shown) -> Out
     requires { ⌜ Represented (now nodes) (λ t u. ShownWindow t s) (memory (now store) (now log) o) ⌝ }
     ensures { λ r. ⌜ Simulates (now (nodes .entry)) (λ t u. ShownWindow t s)

@@ -176,7 +176,7 @@ fn put_last_clause(
     record::copy_out(log, at, &apart, n)
 }
 
-// The two records of a clause, whole or not at all.
+// The two records of a clause, if both fit.
 pub fn put_clause(
     log: &mut [u8],
     at: usize,

@@ -16,7 +16,8 @@ pub record Buffer : Type 0 where
 abbrev pub buffer : List ℕ → ℕ → Buffer
 buffer l a = record { log = l; at = a }
 
--- What is written so far. Bytes from the place on are left open: the end of a play clears them.
+-- What is written so far. Bytes from the place on are left open: the end of a play clears them. So are, where something did not fit, those from
+-- the place on where it began, and which place past the end it is.
 pub data Content : Type 0 where
   written : List ℕ → Content
   overflow : Content

@@ -47,7 +47,7 @@ leafLiterals [] = []
 leafLiterals (leaf l ∷ t) = l ∷ leafLiterals t
 leafLiterals (join ls o a b ∷ t) = leafLiterals t
 
--- The table has the nodes t.
+-- The table has the nodes t. Other numbers are left open: the sides of a leaf, what stands after a list, rows after those of t.
 pub record NodesIn (ns : List ℕ) (t : List Node) : Type 0 where
   pub room : rowAt (length t) ≤ length ns
   pub row : (n : ℕ) → n < length t → Row (rowOf ns n) t n (at t n)
@@ -99,7 +99,7 @@ pub record JoinOf (t : List Node) (x : Join) : Type 0 where
   pub left : ShownOf t (x .left)
   pub right : ShownOf t (x .right)
 
--- A row whose side's node has a row.
+-- The five numbers of a side whose node has a row.
 pub record SidePlace (ns : List ℕ) (p : ℕ) : Type 0 where
   pub there : p + 4 < length ns
   pub below : rowAt (getD ns p 0) + 1 < length ns

@@ -18,7 +18,7 @@ pub data SideAt (t : List Node) : ℕ → ℕ → Side → Type 0 where
 unfoldable pub shows : List Node → ℕ → ℕ → ℕ → Side → Bool
 shows t n f m s = eqb (s .node) n && eqb (s .offset) f && eqb (sideLen t s) m
 
--- The nodes of the second table, numbered from i up: the first of their sides that shows these outputs. 0 where none does.
+-- Of the nodes of the second list, numbered from i up, the first side that shows these outputs: where its first steps would stand. 0 where none does.
 unfoldable pub windowFrom : List Node → ℕ → ℕ → ℕ → List Node → ℕ → ℕ
 unfolding shows
 windowFrom t n f m [] i = 0

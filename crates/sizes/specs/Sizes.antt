@@ -1,4 +1,4 @@
--- The limits of document 01 and the sizes of the tables, each named once, as `src/lib.rt` has them.
+-- The limits that the code tests, the sizes of its tables and the places in them, for contracts. `src/lib.rt` has the constants.
 use Prim.Native.Nat.{ℕ, _+_, _*_}
 
 -- ---- limits
@@ -13,9 +13,6 @@ mostBytes = 65536
 
 abbrev pub mostLeaves : ℕ
 mostLeaves = 64
-
-abbrev pub mostJoins : ℕ
-mostJoins = 255
 
 abbrev pub mostNodes : ℕ
 mostNodes = 319
@@ -76,6 +73,7 @@ leftWindow n = storeAt n + 66
 abbrev pub rightWindow : ℕ → ℕ
 rightWindow n = storeAt n + 68
 
+-- Of the values from 1 on.
 abbrev pub heldAt : ℕ → ℕ → ℕ
 heldAt n v = storeAt n + 69 + v
 

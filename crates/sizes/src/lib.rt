@@ -1,4 +1,5 @@
-// The limits of document 01 and the sizes of the tables, each named once. `specs/Sizes.antt` has them for contracts.
+// The limits that the code tests, the sizes of its tables and the places in them, each named once. `specs/Sizes.antt` has them
+// for contracts.
 
 // ---- limits
 
@@ -60,6 +61,7 @@ pub const LEFT_WINDOW: usize = 66;
 
 pub const RIGHT_WINDOW: usize = 68;
 
+// The place before that of value 1.
 pub const HELD: usize = 69;
 
 pub const STORE_SIZE: usize = TRAIL + STORE_ROW * MOST_NODES;

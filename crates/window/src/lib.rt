@@ -174,7 +174,7 @@ fn put_last_derivation(
     record::copy_out(log, at, &apart, n)
 }
 
-// A derivation of `value`, whole or not at all.
+// A derivation of `value`, if it fits.
 fn put_derivation(
     row: &[u32],
     outputs: &[u32],
