@@ -20,11 +20,6 @@ unfolding range
 range-mem s zero a m = absurd (List·Memᴰ·not-nil m)
 range-mem s (suc n) a m = ⊎-elim (λ e. omega arith) (λ h. omega (arith, range-mem (suc s) n a h)) (List·Memᴰ·cases-cons m)
 
-pub length-range : (s n : ℕ) → length (range s n) ≡ n
-unfolding range
-length-range s zero = refl
-length-range s (suc n) = ap suc (length-range (suc s) n)
-
 pub range-has : (s n a : ℕ) → s ≤ a → a < s + n → List·Memᴰ a (range s n)
 unfolding range
 range-has s zero a l h = absurd (omega arith)

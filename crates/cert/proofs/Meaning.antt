@@ -14,9 +14,10 @@ use Rattle.pb.proofs.Truth.{truth-neg, value-units, value-append, value-keep, c
 use Rattle.record.specs.Record.{Record, sum, derivation, clause, deletion}
 use Rattle.record.specs.Steps.{Defined, derived}
 use Rattle.totdb.specs.Nodes.{Node, at, leaves, len, output, outputs, range}
+use Rattle.totdb.proofs.Listed.{length-range}
 use Rattle.cert.specs.Definitions.{real, window-zero, window, realIf, realOnlyIf, atLeastZero, realRecords, windowIfOf, windowOnlyIfOf, outputsBefore, outputsAfter, windowIfSum, windowOnlyIfSum, asWritten, definedBy}
 use Rattle.cert.specs.Meaning.{MeansIf, MeansOnlyIf, MeansNothing, Witness, MeansWindow, means-value, means-last, Means, means-real, means-zero, means-above, means-window-zero, means-window, Meanings}
-use Rattle.cert.proofs.Apart.{length-range, range-mem}
+use Rattle.cert.proofs.Apart.{range-mem}
 use Rattle.cert.proofs.WindowDerivations.{range-around}
 
 -- ---- one sum, by its value

@@ -13,10 +13,10 @@ use Rattle.pb.proofs.Normal.{Clean, Same, Apart-clean, Off, Apart}
 use Rattle.pb.proofs.Rules.{same-refl}
 use Rattle.record.specs.Steps.{Defined, derived, stepSum, written}
 use Rattle.totdb.specs.Nodes.{Node, len, leaves, range, at, output, outputs}
+use Rattle.totdb.proofs.Listed.{length-range}
 use Rattle.cert.specs.Definitions.{Key, oneDef, only-if, if, realRecords, atLeastZero, realIf, realOnlyIf, definedBy, real, realDef, asWritten, window, window-zero, outputsBefore, outputsAfter, windowIfSum, windowOnlyIfSum, windowDef, windowOnlyIfOf, windowIfOf}
 use Rattle.cert.specs.Requests.{defTokens}
 use Rattle.cert.specs.State.{State, keys, fromIn, stepIn, Head}
-use Rattle.cert.proofs.Apart.{length-range}
 use Rattle.cert.proofs.ClauseDerivations.{Stands, stands-given, stands-nothing, apart-negs}
 use Rattle.cert.proofs.Derivations.{gives-step, clean-room, gives-literal}
 use Rattle.cert.proofs.Keyed.{KeyOf, only-if-zero, if-above, only-if-above}

@@ -12,8 +12,9 @@ use Rattle.pb.proofs.Normal.{Apart, Off, coef-off, Clean, Apart-clean, normal-s
 use Rattle.pb.proofs.Rules.{coef-append, coef-negs, coef-units, same-trans}
 use Rattle.pb.proofs.Terms.{hit-cases, neg-self, neg-neg, variable-neg, coef-keep, coef-nil}
 use Rattle.totdb.specs.Nodes.{range, Node, output}
+use Rattle.totdb.proofs.Listed.{length-range}
 use Rattle.cert.specs.Definitions.{Key, real, ifPart, onlyIfPart, outputsBefore, outputsAfter, windowIfOf, total, windowIfSum, windowOnlyIfOf, windowOnlyIfSum}
-use Rattle.cert.proofs.Apart.{range-mem, length-range}
+use Rattle.cert.proofs.Apart.{range-mem}
 use Rattle.cert.proofs.Derivations.{Gives, Parts, parts-done, parts-more, Room, clean-room, gives-as, gives-saturate, gives-divide, gives-add, gives-step, parts-append, gives-literal, parts-skip, coef-total, gives-parts, clean-less, evaluate-gives}
 use Rattle.cert.proofs.Summands.{if-low, if-high, if-own, only-if-low, only-if-high, only-if-own}
 use Rattle.cert.proofs.Totalizer.{real-if, if-at, real-only-if, only-if-at, piece, piece-back}

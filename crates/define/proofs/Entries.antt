@@ -7,10 +7,10 @@ use lib.ListN.{length, length-append}
 use Rattle.memo.proofs.Lists.{flatMap-append}
 use Rattle.record.specs.Record.{steps}
 use Rattle.totdb.specs.Nodes.{Node, range}
+use Rattle.totdb.proofs.Listed.{length-range}
 use Rattle.cert.specs.Definitions.{Key, keyRecords}
 use Rattle.cert.specs.Equal.{key-dec}
 use Rattle.cert.specs.State.{Stored, fromIn, storedSteps}
-use Rattle.cert.proofs.Apart.{length-range}
 use Rattle.cert.proofs.Counts.{key-count}
 
 abbrev keysOf : List Stored → List Key

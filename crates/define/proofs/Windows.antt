@@ -8,7 +8,7 @@ use lib.Seq.{getD-take, getD-drop, drop-append-le, take-append-le}
 use lib.ListN.{length-take, length-drop}
 use Rattle.sizes.specs.Sizes.{width, trail, storeAt}
 use Rattle.totdb.specs.Nodes.{Node, at, len, output, outputs, outputRow, fromFirst, range}
-use Rattle.totdb.proofs.Listed.{listed-length, row-length}
+use Rattle.totdb.proofs.Listed.{listed-length, row-length, part-range}
 use Rattle.cert.specs.Definitions.{real, window-zero, window}
 use Rattle.cert.specs.State.{State, fromIn, stepIn}
 use Rattle.rows.specs.Rows.{Bounded}
@@ -30,19 +30,6 @@ unfolding range
 getD-range g s zero i h = absurd (omega arith)
 getD-range g s (suc n) zero h = let e : s + 0 ≡ s = omega arith in rw e
 getD-range g s (suc n) (suc i) h = let e : suc s + i ≡ s + suc i = omega arith in getD-range g (suc s) n i (omega arith) ∙ ap g e
-
-part-range : (g : ℕ → ℕ) (s l f m : ℕ) → f + m ≤ l → take m (drop f (map g (range s l))) ≡ map g (range (s + f) m)
-unfolding range
-part-range g s l zero zero h = refl
-part-range g s zero zero (suc m) h = absurd (omega arith)
-part-range g s (suc l) zero (suc m) h =
-    let e : s + 0 ≡ s = omega arith in
-    let d : suc s + 0 ≡ suc s = omega arith in
-    rw e (ap (λ (x : List ℕ). g s ∷ x) (part-range g (suc s) l zero m (omega arith) ∙ rw d))
-part-range g s zero (suc f) m h = absurd (omega arith)
-part-range g s (suc l) (suc f) m h =
-    let e : suc s + f ≡ s + suc f = omega arith in
-    part-range g (suc s) l f m (omega arith) ∙ ap (λ (a : ℕ). map g (range a m)) e
 
 same-range : (g h : ℕ → ℕ) (s n : ℕ) → ((v : ℕ) → s ≤ v → v < s + n → g v ≡ h v) → map g (range s n) ≡ map h (range s n)
 unfolding range

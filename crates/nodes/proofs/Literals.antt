@@ -1,6 +1,6 @@
 -- A side's literals, as the lists of its node have them.
-use mathlib.Core.Path.{_≡_, refl, sym, ap, _∙_}
-use mathlib.Core.List.{List, _∷_, map}
+use mathlib.Core.Path.{_≡_, sym, ap, _∙_}
+use mathlib.Core.List.{List, map}
 use Prim.Native.Nat.{ℕ, zero, suc, _+_, _-_, _^_, _≤_}
 use native.Mathlib.Omega.{arith}
 use lib.ListN.{length, getD, take, drop, replicate, length-map, length-take, length-drop}
@@ -9,25 +9,12 @@ use Rattle.sizes.specs.Sizes.{width, rowAt, listAt}
 use Rattle.memo.proofs.Lists.{map-agree}
 use Rattle.totdb.specs.Nodes.{Node, at, len, leaves, output, outputs, fromFirst, range, outputRow, part, limited, plainOr, sideLen, sideLeaves, sideOutputs}
 use Rattle.totdb.specs.declared.Side.{Side}
-use Rattle.totdb.proofs.Listed.{listed-length, row-length}
-use Rattle.cert.proofs.Apart.{range-mem, length-range}
+use Rattle.totdb.proofs.Listed.{length-range, part-range, listed-length, row-length}
+use Rattle.cert.proofs.Apart.{range-mem}
 use Rattle.rows.proofs.Reading.{row-there, len-is, first-is, list-is, from-first}
 use Rattle.nodes.specs.Added.{Sided, Small}
 
 -- ---- the outputs of a node
-
-part-range : (g : ℕ → ℕ) (s l f m : ℕ) → f + m ≤ l → take m (drop f (map g (range s l))) ≡ map g (range (s + f) m)
-unfolding range
-part-range g s l zero zero h = refl
-part-range g s zero zero (suc m) h = absurd (omega arith)
-part-range g s (suc l) zero (suc m) h =
-    let e : s + 0 ≡ s = omega arith in
-    let d : suc s + 0 ≡ suc s = omega arith in
-    rw e (ap (λ (x : List ℕ). g s ∷ x) (part-range g (suc s) l zero m (omega arith) ∙ rw d))
-part-range g s zero (suc f) m h = absurd (omega arith)
-part-range g s (suc l) (suc f) m h =
-    let e : suc s + f ≡ s + suc f = omega arith in
-    part-range g (suc s) l f m (omega arith) ∙ ap (λ (a : ℕ). map g (range a m)) e
 
 outputs-part : (x : Node) (f m : ℕ) → f + m ≤ len x → part (outputRow (output x 1) (len x)) f m ≡ outputs x f m
 unfolding part outputRow outputs

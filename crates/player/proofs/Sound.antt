@@ -11,11 +11,12 @@ use Rattle.pb.specs.Sum.{variable}
 use Rattle.memo.proofs.Lists.{not-mem}
 use Rattle.totdb.specs.Nodes.{Node, any, at, range, limited, plainOr, sideLeaves, sideLen, sideOutputs, outputs, output, len, leaves, join, known, leaf, leafOf, taken, joined}
 use Rattle.totdb.specs.declared.Side.{Side}
+use Rattle.totdb.proofs.Listed.{length-range}
 use Rattle.cert.specs.Definitions.{if, only-if, Direction}
 use Rattle.cert.specs.Requests.{Request, nodeOf, request, Right}
 use Rattle.cert.specs.Sized.{Fit}
 use Rattle.cert.specs.State.{State, start, requests, directions, serve, define, write, hold, Head}
-use Rattle.cert.proofs.Apart.{sized-ok, length-range}
+use Rattle.cert.proofs.Apart.{sized-ok}
 use Rattle.cert.proofs.Distinct.{true≢false}
 use Rattle.cert.proofs.Rules.{In, Ok}
 use Rattle.cert.proofs.Serving.{Asked, serve-in}

@@ -3,7 +3,7 @@ use mathlib.Core.Path.{_≡_, refl, sym, ap, _∙_}
 use mathlib.Core.List.{List, [], _∷_, _++_, map, map-append}
 use Prim.Native.Nat.{ℕ, zero, suc, _+_, _-_, _*_, _≤_, _<_}
 use native.Mathlib.Omega.{arith}
-use lib.ListN.{length, replicate, set, length-map, length-append, length-replicate}
+use lib.ListN.{length, take, drop, replicate, set, length-map, length-append, length-replicate}
 use lib.Seq.{set-at, append-snoc}
 use Rattle.sizes.specs.Sizes.{width}
 use Rattle.totdb.specs.Nodes.{range, fromFirst, outputRow}
@@ -19,6 +19,20 @@ range-snoc s zero = let e : s + 0 ≡ s = omega arith in rw e
 range-snoc s (suc n) =
     let e : suc s + n ≡ s + suc n = omega arith in
     ap (λ (l : List ℕ). s ∷ l) (range-snoc (suc s) n ∙ rw e)
+
+-- A part of the values of a range.
+pub part-range : (g : ℕ → ℕ) (s l f m : ℕ) → f + m ≤ l → take m (drop f (map g (range s l))) ≡ map g (range (s + f) m)
+unfolding range
+part-range g s l zero zero h = refl
+part-range g s zero zero (suc m) h = absurd (omega arith)
+part-range g s (suc l) zero (suc m) h =
+    let e : s + 0 ≡ s = omega arith in
+    let d : suc s + 0 ≡ suc s = omega arith in
+    rw e (ap (λ (x : List ℕ). g s ∷ x) (part-range g (suc s) l zero m (omega arith) ∙ rw d))
+part-range g s zero (suc f) m h = absurd (omega arith)
+part-range g s (suc l) (suc f) m h =
+    let e : suc s + f ≡ s + suc f = omega arith in
+    part-range g (suc s) l f m (omega arith) ∙ ap (λ (a : ℕ). map g (range a m)) e
 
 replicate-cons : (n : ℕ) → 0 < n → replicate {A = ℕ} n 0 ≡ 0 ∷ replicate (n - 1) 0
 replicate-cons zero h = absurd (omega arith)

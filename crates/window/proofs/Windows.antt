@@ -16,8 +16,9 @@ use Rattle.record.specs.Writing.{signed}
 use Rattle.record.proofs.Tokens.{tokens-append}
 use Rattle.totdb.specs.Nodes.{Node, at, output, outputs, range}
 use Rattle.memo.proofs.Lists.{flatMap-append}
+use Rattle.totdb.proofs.Listed.{length-range}
 use Rattle.cert.specs.Definitions.{Key, addSequence, atLeastZero, keyRecords, window, windowPair}
-use Rattle.cert.proofs.Apart.{range-mem, length-range}
+use Rattle.cert.proofs.Apart.{range-mem}
 use Rattle.cert.proofs.Summands.{if-low, if-high, if-own, only-if-low, only-if-high, only-if-own}
 use Rattle.cert.proofs.WindowDerivations.{range-around}
 use Rattle.window.specs.Window.{added, firstOther, Handed, summand, tokensOf}
