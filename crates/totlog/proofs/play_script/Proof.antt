@@ -95,7 +95,7 @@ play-commands-requires c κs =
     let a = c .before .before .before .before .before .before .before .before .before .before .before .before .args in
     record {
       short = omega arith;
-      inside = head-end (a .script .now) _ _ _ (sym (c .before .before .before .before .before .before .before .head .ensures) ∙ c .before .before .before .before .before .variable .given .1);
+      inside = omega (arith, head-end (a .script .now) _ _ _ (sym (c .before .before .before .before .before .before .before .head .ensures) ∙ c .before .before .before .before .before .variable .given .1));
       small = omega arith;
       head = head-fits _ _ (c .before .before .before .if3 .left) (omega (arith, c .before .before .if4 .left)) (c .before .if5 .left);
     }
