@@ -58,6 +58,14 @@ encode-more (suc n) h = rw (in-more n (suc n) h, same (suc n / 128) n (suc n / 1
 pub encode-two : (x : ℕ) → 128 ≤ x → x < 16384 → encode x ≡ (x % 128 + 128) ∷ (x / 128) ∷ []
 encode-two x h k = rw (encode-more x h, encode-last (x / 128) (omega arith))
 
+-- the same, from the number that `push_two` makes of both bytes
+pub encode-pair : (x : ℕ) → 128 ≤ x → x < 16384 → encode x ≡ ((x + x / 128 * 128 + 128) % 256) ∷ ((x + x / 128 * 128 + 128) / 256) ∷ []
+encode-pair x h k =
+    let e = x + x / 128 * 128 + 128 in
+    let low : e % 256 ≡ x % 128 + 128 = omega arith in
+    let high : e / 256 ≡ x / 128 = omega arith in
+    encode-two x h k ∙ rw (low, high)
+
 pub encode-some : (x : ℕ) → 0 < length (encode x)
 encode-some = by-groups (λ x. 0 < length (encode x)) (λ x h. rw (encode-last x h) (omega arith)) (λ x h _. rw (encode-more x h) (omega arith))
 

@@ -52,16 +52,25 @@ fn read_groups(s: &[u8], at: usize, groups: usize) -> Reading
 pub fn read(s: &[u8], at: usize) -> Reading
     ensures { λ r. ⌜ r ≡ readAt (now (s .entry)) at ⌝ }
 {
+    // Most numbers of a script have one group, and need no call.
+    if s.len() <= at {
+        return Reading::Bad;
+    }
+    let first = byte(s, at);
+    if first < 128 {
+        return Reading::Number(first, at + 1);
+    }
     read_groups(s, at, GROUPS)
 }
 
-// A number of two groups.
-fn push_two(log: &mut [u8], at: usize, x: u32)
+// A number of two groups. Its bytes are made as one number, so that one store writes both.
+pub fn push_two(log: &mut [u8], at: usize, x: u32)
     requires { ⌜ (at + 2 ≤ length (now log)) × (128 ≤ x) × (x < 16384) ⌝ }
     ensures { λ _. ⌜ now (log .exit) ≡ written (now (log .entry)) at x ⌝ }
 {
-    log[at] = (x % 128 + 128) as u8;
-    log[at + 1] = (x / 128) as u8;
+    let e = x + x / 128 * 128 + 128;
+    log[at] = (e % 256) as u8;
+    log[at + 1] = (e / 256) as u8;
 }
 
 // A number of any size.
