@@ -4,6 +4,7 @@ pub mod Bytes
 pub mod Closes
 pub mod Decode
 pub mod Groups
+pub mod Ones
 pub mod Steps
 pub mod Sums
 pub mod Tokens

@@ -31,7 +31,7 @@ unfolding signed
 signed-one true x = refl
 signed-one false x = refl
 
--- The loop of `put_units`: no literal, one more, and all.
+-- The loops of `push_any` and `push_ones`: no literal, one more, and all.
 module _ (s : Bool) (ls : List ℕ) where
   pub units-none : termNumbers (units (signed s (take 0 ls))) ≡ []
   unfolding termNumbers units signed

@@ -7,11 +7,12 @@ use native.Mathlib.Nat.{le-antisymm}
 use native.Mathlib.Omega.{arith}
 use borrow.Author.Tests.{le-leb, lt-leb}
 use lib.Dec.{leb}
-use lib.ListN.{length, take, drop, replicate, length-append}
+use lib.ListN.{length, set, take, drop, replicate, length-append, length-set}
 use lib.Seq.{take-at, take-take, length-take-le, drop-length}
 use Rattle.memo.proofs.Lists.{flatMap-append}
 use Rattle.number.specs.Number.{encode}
-use Rattle.number.proofs.Places.{written-is}
+use Rattle.number.proofs.Laws.{encode-last}
+use Rattle.number.proofs.Places.{written-is, sets-written}
 use Rattle.record.specs.Writing.{Buffer, buffer, Content, written, overflow, content, append, Onward, Puts}
 
 -- ---- the content of a buffer
@@ -152,6 +153,17 @@ put-one l m a e x room end size is =
       onward = record { size = size; on = omega (arith, end); front = λ k h. same-front l m a k h front };
       is = rw append-nil (pasted l m a e (encode x) room end size (is ∙ written-is l a x));
     }
+
+-- One number of one group, as a byte; and two.
+put-byte : (l : List ℕ) (a x : ℕ) → a < length l → x < 128 → Puts (buffer l a) (x ∷ []) (buffer (set l a x) (a + 1))
+put-byte l a x h k =
+    let one = encode-last x k in
+    let n : length (encode x) ≡ 1 = ap length one in
+    put-one l (set l a x) a (a + 1) x (omega arith) (omega arith) (length-set l a x) (sets-written l a x (x ∷ []) one (omega arith))
+
+pub put-bytes : (l : List ℕ) (a b x d y : ℕ) → a + 1 < length l → b ≡ x → x < 128 → d ≡ y → y < 128
+    → Puts (buffer l a) (x ∷ y ∷ []) (buffer (set (set l a b) (a + 1) d) (a + 1 + 1))
+put-bytes l a b x d y h e p f q = rw (e, f) (after (put-byte l a x (omega arith) p) (put-byte (set l a x) (a + 1) y (simp length-set h) q))
 
 -- What was put apart, from its beginning, is in place once its bytes are.
 pub from-apart : {z w l m : List ℕ} {n a e : ℕ} {ns : List ℕ} → Puts (buffer z 0) ns (buffer w n) → n ≤ length w

@@ -1,9 +1,9 @@
 -- Writing numbers into a log of fixed length: the contract of every writer.
 use mathlib.Core.Path.{_≡_}
 use mathlib.Core.Bool.{Bool, true, false, cond}
-use mathlib.Core.List.{List, _++_, map, flatMap}
+use mathlib.Core.List.{List, [], _∷_, _++_, map, flatMap}
 use Prim.Native.Nat.{ℕ, _+_, _≤_}
-use lib.Dec.{leb}
+use lib.Dec.{leb, ltb}
 use lib.ListN.{length, take}
 use Rattle.number.specs.Number.{encode}
 use Rattle.pb.specs.Sum.{neg}
@@ -47,3 +47,8 @@ pub record Puts (b : Buffer) (ns : List ℕ) (d : Buffer) : Type 0 where
 unfoldable pub signed : Bool → List ℕ → List ℕ
 signed true ls = map neg ls
 signed false ls = ls
+
+-- Whether every literal has one group.
+unfoldable pub ones : List ℕ → Bool
+ones [] = true
+ones (l ∷ ls) = cond (ltb l 128) (ones ls) false
