@@ -3,4 +3,3 @@ pub mod Firsts
 pub mod Joins
 pub mod Written
 pub mod Stored
-pub mod Splits

@@ -13,18 +13,19 @@ use Rattle.totdb.specs.Nodes.{Node, plainOr, keyed}
 use Rattle.cert.specs.Definitions.{Direction, Key, real, window, sideDef}
 use Rattle.cert.specs.Requests.{keyOf, looksOf}
 use Rattle.cert.specs.State.{State, lookUp}
+use Rattle.derivation.proofs.Twos.{both-true}
 use Rattle.rows.specs.Rows.{Table}
 use Rattle.rows.specs.declared.Join.{Join}
 use Rattle.rows.specs.declared.Shown.{Shown}
 use Rattle.define.specs.Store.{direction, slot}
 use Rattle.define.specs.Represents.{Memory, Simulates}
-use Rattle.define.specs.Lookups.{SideIn}
+use Rattle.define.specs.Lookups.{RealOf, SideIn}
 use Rattle.define.proofs.Looks.{look-up-grows, sims-there}
 use Rattle.define.proofs.SideLooks.{short-looks, plain-looks, window-looks}
 use Rattle.define.proofs.Simulates.{sims-full}
 use Rattle.define.proofs.Slots.{Named, real-named, window-named}
 use Rattle.define.proofs.Windows.{window-of, window-slots}
-use Rattle.clauses.specs.Firsts.{hasFirst, sideStored, clauseStored}
+use Rattle.clauses.specs.Firsts.{hasFirst, sideStored, sidesStored}
 use Rattle.clauses.specs.Joins.{ClauseIn, clauseOf}
 use Rattle.clauses.proofs.Written.{sims-looks}
 
@@ -45,10 +46,6 @@ plain-second zero zero a b h = true-false refl h
 plain-second zero (suc k) a b h = refl
 plain-second (suc f) k a b h = refl
 
-and-false : (a : Bool) → (a && false) ≡ false
-and-false true = refl
-and-false false = refl
-
 module _ (store : List ℕ) (s : Shown) (a : ℕ) where
   pub short-stored : s .len ≤ 1 → true ≡ sideStored store s a
   unfolding sideStored
@@ -60,19 +57,14 @@ module _ (store : List ℕ) (s : Shown) (a : ℕ) where
   unfolding sideStored
   long-stored h e = rw (lt-leb _ _ h, e)
 
-module _ (store : List ℕ) (x : Join) (v i j : ℕ) where
-  pub this-missing : hasFirst store (storeAt (x .node) + v) ≡ false → false ≡ clauseStored store x v i j
-  unfolding clauseStored
-  this-missing e = rw e
+module _ (store : List ℕ) (x : Join) (i j : ℕ) where
+  pub left-missing : sideStored store (x .left) i ≡ false → false ≡ sidesStored store x i j
+  unfolding sidesStored
+  left-missing e = rw e
 
-  pub left-missing : sideStored store (x .left) i ≡ false → false ≡ clauseStored store x v i j
-  unfolding clauseStored
-  left-missing e = rw (e, and-false (hasFirst store (storeAt (x .node) + v)))
-
-  pub right-last : hasFirst store (storeAt (x .node) + v) ≡ true → sideStored store (x .left) i ≡ true
-      → sideStored store (x .right) j ≡ clauseStored store x v i j
-  unfolding clauseStored
-  right-last e f = rw (e, f)
+  pub right-last : sideStored store (x .left) i ≡ true → sideStored store (x .right) j ≡ sidesStored store x i j
+  unfolding sidesStored
+  right-last e = rw e
 
 -- ---- lookups
 
@@ -108,16 +100,17 @@ module _ {ns : List ℕ} (s : Shown) (a : ℕ) (d : Direction) (m : Memory) wher
 
 -- ---- a clause
 
-both-true : (a b : Bool) → (a && b) ≡ true → (a ≡ true) × (b ≡ true)
-both-true true b h = (refl, h)
-both-true false b h = true-false h refl
+-- The sides look up nothing, and the value itself what it may.
+pub sims-this : {ns : List ℕ} {x : Join} {v i j : ℕ} {b : Bool} {m n : Memory} → sidesStored (m .store) x i j ≡ true
+    → Simulates ns (λ t u. RealOf t (x .node) v) (λ t u. lookUp t (real (x .node) v) u) m n
+    → Simulates ns (λ t u. ClauseIn t x v i j b) (λ t u. each (lookUp t) (looksOf t (clauseOf t x v i j b)) u) m n
+unfolding sidesStored
+sims-this {x = x} {v} {i} {j} {b} {m} h d =
+    let both = both-true (sideStored (m .store) (x .left) i) _ h in
+    sims-looks (sims-stored-side (x .left) i (direction (not b)) m (both .0)) (sims-stored-side (x .right) j (direction (not b)) m (both .1)) d
 
-pub sims-stored : {ns : List ℕ} {x : Join} {v i j : ℕ} {b : Bool} (m : Memory) → clauseStored (m .store) x v i j ≡ true
-    → Simulates ns (λ t u. ClauseIn t x v i j b) (λ t u. each (lookUp t) (looksOf t (clauseOf t x v i j b)) u) m m
-unfolding clauseStored slot
-sims-stored {x = x} {v} {i} {j} {b} m h =
-    let all = both-true (hasFirst (m .store) (storeAt (x .node) + v) && sideStored (m .store) (x .left) i) _ h in
-    let first = both-true (hasFirst (m .store) (storeAt (x .node) + v)) _ (all .0) in
-    sims-looks (sims-stored-side (x .left) i (direction (not b)) m (first .1))
-    (sims-stored-side (x .right) j (direction (not b)) m (all .1))
-    (sims-stored-key (real (x .node) v) (storeAt (x .node) + v) m (λ t s l q. real-named (l .bounded) q) (λ t s l q. refl) (first .0))
+pub sims-stored-real : {ns : List ℕ} {n v : ℕ} {m : Memory} → hasFirst (m .store) (storeAt n + v) ≡ true
+    → Simulates ns (λ t u. RealOf t n v) (λ t u. lookUp t (real n v) u) m m
+unfolding slot
+sims-stored-real {n = n} {v} {m} h =
+    sims-stored-key (real n v) (storeAt n + v) m (λ t s l q. real-named (l .bounded) q) (λ t s l q. refl) h

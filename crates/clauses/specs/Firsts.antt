@@ -54,7 +54,7 @@ sideStored store s a =
     leb (s .len) 1
     || hasFirst store (plainOr (s .side .offset) (s .side .limit) (storeAt (s .side .node) + keyed (s .side) a) (s .window + 1))
 
--- Whether all that a clause of value v looks up is stored.
-unfoldable pub clauseStored : List ℕ → Join → ℕ → ℕ → ℕ → Bool
+-- Whether what both sides of a clause look up is stored.
+unfoldable pub sidesStored : List ℕ → Join → ℕ → ℕ → Bool
 unfolding sideStored
-clauseStored store x v i j = hasFirst store (storeAt (x .node) + v) && sideStored store (x .left) i && sideStored store (x .right) j
+sidesStored store x i j = sideStored store (x .left) i && sideStored store (x .right) j

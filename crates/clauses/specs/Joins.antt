@@ -54,16 +54,6 @@ pub record ClauseIn (t : List Node) (x : Join) (v i j : ℕ) (b : Bool) : Type 0
   pub left : Within b (x .left .len) i
   pub right : Within b (x .right .len) j
 
--- ---- the clauses of a value, by the split a of a sum over the two sides
-
-unfoldable pub splitSum : ℕ → Bool → ℕ
-splitSum v true = v - 1
-splitSum v false = v
-
-unfoldable pub leftValue : ℕ → Bool → ℕ
-leftValue a true = a + 1
-leftValue a false = a
-
 -- ---- bounds, where the nodes are not lent
 
 -- The a-th value of a side.

@@ -1,4 +1,4 @@
-// The clauses of a value in one direction, with the definitions that each looks up.
+// A clause of a join, with the definitions that it looks up.
 use define::Out;
 use derivation::Clause;
 use derivation::Part;
@@ -13,7 +13,7 @@ ghost use lib.ListN.{length, getD};
 ghost use Rattle.sizes.specs.Sizes.{mostNodes, width, storeAt};
 ghost use Rattle.memo.specs.Visit.{each};
 ghost use Rattle.totdb.specs.Nodes.{Node, at, output};
-ghost use Rattle.cert.specs.Definitions.{sideDef, Key, oneDef};
+ghost use Rattle.cert.specs.Definitions.{sideDef, Key, oneDef, real};
 ghost use Rattle.cert.specs.Requests.{request, clausesOf, looksOf};
 ghost use Rattle.cert.specs.State.{lookUp, writeClause, Stored, stepIn, write};
 ghost use Rattle.derivation.specs.Operands.{operand};
@@ -21,9 +21,9 @@ ghost use Rattle.derivation.specs.declared.SemDefinition.the-variants.{Step};
 ghost use Rattle.rows.specs.Rows.{Bounded};
 ghost use Rattle.define.specs.Store.{direction};
 ghost use Rattle.define.specs.Represents.{memory, Represented, Simulates};
-ghost use Rattle.define.specs.Lookups.{SideIn};
-ghost use Rattle.clauses.specs.Firsts.{realStep, windowStep, SideRead, hasFirst, sideStored, clauseStored};
-ghost use Rattle.clauses.specs.Joins.{JoinIn, ClauseIn, SideReach, SideRoom, ClauseReach, Within, clauseOf, clausePart, lastLiteral, splitSum, leftValue};
+ghost use Rattle.define.specs.Lookups.{SideIn, RealOf};
+ghost use Rattle.clauses.specs.Firsts.{realStep, windowStep, SideRead, hasFirst, sideStored, sidesStored};
+ghost use Rattle.clauses.specs.Joins.{JoinIn, ClauseIn, SideReach, SideRoom, ClauseReach, Within, clauseOf, clausePart, lastLiteral};
 
 // A leaf, or a window of length 1: its one literal, at 0, at its own value and above.
 fn one_definition(literal: u32, value: usize) -> SemDefinition
@@ -116,7 +116,7 @@ fn part(s: Shown, a: usize, only_if: bool) -> Part
 }
 
 // The last literal of a clause: the output, in an only-if clause negated.
-fn own_literal(x: Join, value: usize, only_if: bool) -> u32
+pub fn own_literal(x: Join, value: usize, only_if: bool) -> u32
     requires { ⌜ (x .first ≤ 2 ^ 30) × (1 ≤ value) × (value ≤ width) ⌝ }
     requires { ⌜ ((t : List Node) × JoinIn t x value) ⌝ }
     ensures { λ r. ⌜ ((t : List Node) → JoinIn t x value → r ≡ lastLiteral «only_if» (output (at t (x .node)) value)) ⌝ }
@@ -167,7 +167,7 @@ fn put_clause(
 }
 
 // Whether a definition is stored, by its place.
-fn has_first(store: &[u32], place: usize) -> bool
+pub fn has_first(store: &[u32], place: usize) -> bool
     requires { ⌜ place < length (now store) ⌝ }
     ensures { λ r. ⌜ r ≡ hasFirst (now (store .entry)) place ⌝ }
 {
@@ -189,18 +189,34 @@ fn is_side_stored(store: &[u32], s: Shown, a: usize) -> bool
     has_first(store, s.window + 1)
 }
 
-// Whether all that a clause looks up is stored, as it is of most clauses.
-fn is_stored(store: &[u32], x: Join, value: usize, i: usize, j: usize) -> bool
-    requires { ⌜ ((b : Bool) × ClauseReach (now store) x value i j b) ⌝ }
-    ensures { λ r. ⌜ r ≡ clauseStored (now (store .entry)) x value i j ⌝ }
+// Whether what both sides of a clause look up is stored, as it is of most clauses.
+fn are_sides_stored(store: &[u32], x: Join, i: usize, j: usize) -> bool
+    requires { ⌜ SideRoom (now store) (x .left) i × SideRoom (now store) (x .right) j ⌝ }
+    ensures { λ r. ⌜ r ≡ sidesStored (now (store .entry)) x i j ⌝ }
 {
-    if !has_first(store, define::store_at(x.node) + value) {
-        return false;
-    }
     if !is_side_stored(store, x.left, i) {
         return false;
     }
     is_side_stored(store, x.right, j)
+}
+
+// The definition of the value itself. Where it is stored, the test spares a call.
+fn look_up_this(
+    nodes: &[u32],
+    store: &mut [u32],
+    log: &mut [u8],
+    o: Out,
+    node: usize,
+    value: usize,
+) -> Out
+    requires { ⌜ Represented (now nodes) (λ t s. RealOf t node value) (memory (now store) (now log) o) ⌝ }
+    ensures { λ r. ⌜ Simulates (now (nodes .entry)) (λ t s. RealOf t node value) (λ t s. lookUp t (real node value) s)
+        (memory (now (store .entry)) (now (log .entry)) o) (memory (now (store .exit)) (now (log .exit)) r) ⌝ }
+{
+    if has_first(store, define::store_at(node) + value) {
+        return o;
+    }
+    define::look_up_real(nodes, store, log, o, node, value)
 }
 
 // What a clause looks up: left, right, this.
@@ -224,7 +240,7 @@ fn look_up_each(
     define::look_up_real(nodes, store, log, b, x.node, value)
 }
 
-// What a clause looks up. Where all is stored, the test spares three calls.
+// What a clause looks up. Where that of the sides is stored, the test spares two calls.
 fn look_up(
     nodes: &[u32],
     store: &mut [u32],
@@ -240,14 +256,14 @@ fn look_up(
         (λ t s. each (lookUp t) (looksOf t (clauseOf t x value i j b)) s)
         (memory (now (store .entry)) (now (log .entry)) o) (memory (now (store .exit)) (now (log .exit)) r)) ⌝ }
 {
-    if is_stored(store, x, value, i, j) {
-        return o;
+    if are_sides_stored(store, x, i, j) {
+        return look_up_this(nodes, store, log, o, x.node, value);
     }
     look_up_each(nodes, store, log, o, x, value, i, j)
 }
 
 // A clause, with what it looks up.
-fn write_clause(
+pub fn write_clause(
     nodes: &[u32],
     store: &mut [u32],
     log: &mut [u8],
@@ -265,62 +281,4 @@ fn write_clause(
 {
     let c = look_up(nodes, store, log, o, x, value, i, j);
     put_clause(store, log, c, x, value, i, j, only_if)
-}
-
-// The sum that is split over the two sides: in an only-if clause each has one more.
-fn split_sum(value: usize, only_if: bool) -> usize
-    requires { ⌜ 1 ≤ value ⌝ }
-    ensures { λ r. ⌜ r ≡ splitSum value «only_if» ⌝ }
-{
-    if only_if { value - 1 } else { value }
-}
-
-// The least that the left side has of a sum, where the right has at most q.
-fn least(sum: usize, q: usize) -> usize
-    ensures { λ r. ⌜ r ≡ sum - q ⌝ }
-{
-    if q < sum { sum - q } else { 0 }
-}
-
-// The most that the left side has of a sum, where it has at most p.
-fn greatest(sum: usize, p: usize) -> usize
-    ensures { λ r. ⌜ r ≡ min sum p ⌝ }
-{
-    if sum < p { sum } else { p }
-}
-
-// The left side's value in the clause of the split a.
-fn left_value(a: usize, only_if: bool) -> usize
-    requires { ⌜ a ≤ width ⌝ }
-    ensures { λ r. ⌜ r ≡ leftValue a «only_if» ⌝ }
-{
-    if only_if { a + 1 } else { a }
-}
-
-// The clauses of a value in one direction.
-pub fn write_clauses(
-    nodes: &[u32],
-    store: &mut [u32],
-    log: &mut [u8],
-    o: Out,
-    x: Join,
-    value: usize,
-    only_if: bool,
-) -> Out
-    requires { ⌜ Represented (now nodes) (λ t s. JoinIn t x value) (memory (now store) (now log) o) ⌝ }
-    ensures { λ r. ⌜ Simulates (now (nodes .entry)) (λ t s. JoinIn t x value)
-        (λ t s. each (writeClause t) (clausesOf t (request (x .node) value (direction «only_if»))) s)
-        (memory (now (store .entry)) (now (log .entry)) o) (memory (now (store .exit)) (now (log .exit)) r) ⌝ }
-{
-    let l = x.left;
-    let r = x.right;
-    let sum = split_sum(value, only_if);
-    let low = least(sum, r.len);
-    let high = greatest(sum, l.len);
-    let mut p = o;
-    for a in low..high + 1 {
-        let i = left_value(a, only_if);
-        p = write_clause(nodes, store, log, p, x, value, i, value - a, only_if);
-    }
-    p
 }

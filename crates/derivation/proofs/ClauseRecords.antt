@@ -11,10 +11,11 @@ use Rattle.pb.specs.Rules.{Token, saturate}
 use Rattle.record.specs.Record.{clause, derivation, numbers, tokenNumbers}
 use Rattle.record.proofs.Tokens.{tokens-append}
 use Rattle.cert.specs.Definitions.{Key, Definition, nothing, axiom-of, stored, addSequence}
-use Rattle.derivation.specs.Operands.{operand, part, stepTokens, tokens}
+use Rattle.derivation.specs.Operands.{operand, part, stepTokens, tokens, clauseNumbers, wholeNumbers}
 use Rattle.totdb.specs.Nodes.{Node}
 use Rattle.cert.specs.Requests.{Clause, definition, clauseTokens, defTokens}
 use Rattle.derivation.specs.declared.Part.{Part}
+use Rattle.derivation.specs.declared.Whole.{Whole}
 use Rattle.derivation.specs.declared.SemDefinition.{SemDefinition}
 use Rattle.derivation.specs.declared.SemDefinition.the-variants.{None, Step, Axiom}
 use Rattle.derivation.proofs.SemDefinition.{the-type}
@@ -104,3 +105,11 @@ unfolding numbers
 clause-is s left right o =
     let e : length (part left) + length (part right) + 1 ≡ length (part left ++ part right ++ (o ∷ [])) = simp length-append (omega arith) in
     rw (e, append-assoc)
+
+-- ---- a clause with both parts, whose step adds up three steps
+
+pub whole-is : (w : Whole)
+    → 2 ∷ 6 ∷ 0 ∷ w .this ∷ 0 ∷ w .left ∷ 2 ∷ 0 ∷ w .right ∷ 2 ∷ 4 ∷ 3 ∷ w .step ∷ 3 ∷ w .«left_part» ∷ w .«right_part» ∷ w .output ∷ []
+    ≡ wholeNumbers w
+unfolding wholeNumbers numbers tokenNumbers stepTokens tokens addSequence clauseNumbers part
+whole-is w = refl

@@ -94,7 +94,7 @@ fn write_request(
         (λ t s. writeRequest t (request (x .node) value (direction «only_if»)) s)
         (memory (now (store .entry)) (now (log .entry)) o) (memory (now (store .exit)) (now (log .exit)) r) ⌝ }
 {
-    let p = clauses::write_clauses(nodes, store, log, o, x, value, only_if);
+    let p = splits::write_clauses(nodes, store, log, o, x, value, only_if);
     hold(store, x.node, value, only_if);
     p
 }

@@ -17,8 +17,9 @@ use Rattle.rows.specs.declared.Join.{Join}
 use Rattle.define.specs.Store.{direction}
 use Rattle.define.specs.Represents.{Memory, Represented, Simulates}
 use Rattle.define.proofs.Simulates.{sims-none, sims-then, sims-under, sims-same}
-use Rattle.clauses.specs.Joins.{JoinIn, ClauseIn, Within, clauseOf, clausePart, lastLiteral, splitSum, leftValue}
+use Rattle.clauses.specs.Joins.{JoinIn, ClauseIn, Within, clauseOf, clausePart, lastLiteral}
+use Rattle.splits.specs.Splits.{splitSum, leftValue}
 use Rattle.clauses.proofs.Joins.{join-fits}
 
 -- ---- which splits there are
 

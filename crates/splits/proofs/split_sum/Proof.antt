@@ -1,8 +1,8 @@
--- `clauses::split_sum` meets its contract: each case is one of `splitSum`.
+-- `splits::split_sum` meets its contract: each case is one of `splitSum`.
 use borrow.Author.Needs.{needs}
-use Rattle.clauses.specs.Joins.{splitSum}
-use Rattle.clauses.proofs.split_sum.Statement.{statement}
-use Rattle.clauses.proofs.split_sum.Tie as tie
+use Rattle.splits.specs.Splits.{splitSum}
+use Rattle.splits.proofs.split_sum.Statement.{statement}
+use Rattle.splits.proofs.split_sum.Tie as tie
 
 sub-result : tie.Need-sub-result
 sub-result c = search needs

@@ -1,8 +1,8 @@
--- `clauses::least` meets its contract.
+-- `splits::least` meets its contract.
 use native.Mathlib.Omega.{arith}
 use borrow.Author.Needs.{needs}
-use Rattle.clauses.proofs.least.Statement.{statement}
-use Rattle.clauses.proofs.least.Tie as tie
+use Rattle.splits.proofs.least.Statement.{statement}
+use Rattle.splits.proofs.least.Tie as tie
 
 sub-result : tie.Need-sub-result
 sub-result c = search needs

@@ -1,8 +1,8 @@
--- `clauses::left_value` meets its contract: each case is one of `leftValue`.
+-- `splits::left_value` meets its contract: each case is one of `leftValue`.
 use borrow.Author.Needs.{needs}
-use Rattle.clauses.specs.Joins.{leftValue}
-use Rattle.clauses.proofs.left_value.Statement.{statement}
-use Rattle.clauses.proofs.left_value.Tie as tie
+use Rattle.splits.specs.Splits.{leftValue}
+use Rattle.splits.proofs.left_value.Statement.{statement}
+use Rattle.splits.proofs.left_value.Tie as tie
 
 add-result : tie.Need-add-result
 add-result c = search needs
