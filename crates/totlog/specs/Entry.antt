@@ -2,15 +2,15 @@
 use mathlib.Core.Path.{_≡_}
 use mathlib.Core.Bool.{true, false}
 use mathlib.Core.List.{List, [], _∷_, _++_}
-use Prim.Native.Nat.{ℕ, _+_, _-_, _*_, _≤_, _/_, _%_}
+use Prim.Native.Nat.{ℕ, _+_, _-_, _*_, _≤_, _<_, _/_, _%_}
 use lib.ListN.{length, getD, take, drop, replicate}
 use Rattle.record.specs.Record.{bytes, steps}
 use Rattle.cert.specs.State.{State, start, Head}
-use Rattle.sizes.specs.Sizes.{mostBytes}
+use Rattle.sizes.specs.Sizes.{mostBytes, mostLeaves, leafBytes, joinBytes}
 use Rattle.define.specs.Represents.{memory}
 use Rattle.player.specs.Player.{Outcome, outcome, plays, headFits, played}
 use Rattle.player.specs.Script.{Commands, readCommands}
-use Rattle.commands.specs.Standing.{Standing, Reported}
+use Rattle.commands.specs.Standing.{Standing, Room, Reported}
 use Rattle.commands.specs.declared.Totals.{Totals}
 use Rattle.totlog.specs.declared.Answer.{Answer}
 use Rattle.totlog.specs.declared.Ending.{Ending}
@@ -84,6 +84,12 @@ commandsFrom bs from = readCommands (length bs - from) false (drop from bs)
 abbrev pub playedFrom : List ℕ → ℕ → Head → ℕ → Outcome
 playedFrom bs from h c = plays h c (commandsFrom bs from .ending) (commandsFrom bs from .list) 0 (start h)
 
+-- The tables have room for a node before every command of a script of n bytes: those made take the bytes of their commands, and
+-- are 128 at most.
+pub record Rows (n : ℕ) (ns store : List ℕ) : Type 0 where
+  pub room : (leaves joins : ℕ) → leaves ≤ mostLeaves → leaves + joins ≤ 128 → leafBytes * leaves + joinBytes * joins < n
+      → Room ns store (leaves + joins)
+
 -- The tables represent the state that a play begins with.
 pub record Begun (ns store log : List ℕ) (z : Totals) : Type 0 where
   pub head : Head
@@ -99,9 +105,10 @@ pub record Finished (h : Head) (c : ℕ) (cs : Commands) (log : List ℕ) (r : E
   pub counted : state .next-step ≡ h .step + Rattle.record.specs.Record.steps (state .log)
   pub few : length (state .nodes) ≤ 128
 
--- What the entry's parts are lent: a script and a log that are not too long.
+-- What the entry's parts are lent: a script with a head, and a log, that are not too long.
 pub record Lent (script : List ℕ) (from : ℕ) (log : List ℕ) (h : Head) : Type 0 where
   pub short : length script ≤ mostBytes
+  pub headed : 0 < from
   pub inside : from ≤ length script
   pub small : length log ≤ mostBytes
   pub head : headFits h ≡ true
