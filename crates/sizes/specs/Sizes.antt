@@ -24,9 +24,15 @@ leafBytes = 2
 abbrev pub joinBytes : ℕ
 joinBytes = 7
 
--- The bytes of a script that makes no more nodes than the smaller tables have rows for.
+-- The nodes of the smaller tables, and the bytes of a script that makes no more.
+abbrev pub fewNodes : ℕ
+fewNodes = 16
+
 abbrev pub fewBytes : ℕ
 fewBytes = 32
+
+abbrev pub someNodes : ℕ
+someNodes = 128
 
 abbrev pub someBytes : ℕ
 someBytes = 576

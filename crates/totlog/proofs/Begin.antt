@@ -4,7 +4,7 @@ use mathlib.Core.List.{List, [], List·Memᴰ·not-nil}
 use Prim.Native.Nat.{ℕ, zero, suc, _+_, _*_, _≤_, _<_}
 use native.Mathlib.Omega.{arith}
 use lib.ListN.{length, getD, replicate, length-replicate}
-use Rattle.sizes.specs.Sizes.{rowAt, storeAt}
+use Rattle.sizes.specs.Sizes.{mostLeaves, leafBytes, joinBytes, rowAt, storeAt}
 use Rattle.record.specs.Record.{bytes, steps, clauses}
 use Rattle.record.specs.Writing.{content, buffer, written}
 use Rattle.record.proofs.Writing.{content-in}
@@ -49,17 +49,19 @@ table-none ns h = record {
 }
 
 -- Tables of zeros with k rows, where k nodes are enough.
-pub rows-in : (n k : ℕ) → ((leaves joins : ℕ) → leaves ≤ 64 → leaves + joins ≤ 128 → 2 * leaves + 7 * joins < n → leaves + joins < k) → (a b : ℕ)
-    → rowAt k ≤ a → storeAt k ≤ b → Rows n (replicate a 0) (replicate b 0)
-rows-in n k enough a b p q = record {
-  room = λ i j few all took. let h = enough i j few all took in record {
-    row = omega (arith, p, h, length-replicate {A = ℕ} a 0);
-    store-row = omega (arith, q, h, length-replicate {A = ℕ} b 0);
-  };
-}
-
-pub zeros-in : (n : ℕ) → replicate {A = ℕ} n 0 ≡ replicate (length (replicate {A = ℕ} n 0)) 0
-zeros-in n = ap (λ (k : ℕ). replicate {A = ℕ} k 0) (sym (length-replicate {A = ℕ} n 0))
+pub cleared : (n k : ℕ)
+    → ((leaves joins : ℕ) → leaves ≤ mostLeaves → leaves + joins ≤ 128 → leafBytes * leaves + joinBytes * joins < n → leaves + joins < k)
+    → Rows n (replicate (rowAt k) 0) (replicate (storeAt k) 0)
+    × (replicate {A = ℕ} (storeAt k) 0 ≡ replicate (length (replicate {A = ℕ} (storeAt k) 0)) 0)
+cleared n k enough =
+    let p = length-replicate {A = ℕ} (rowAt k) 0 in
+    let q = length-replicate {A = ℕ} (storeAt k) 0 in (
+      record {
+        room = λ leaves joins few all took.
+            let h = enough leaves joins few all took in record { row = omega (arith, p, h); store-row = omega (arith, q, h) };
+      },
+      ap (λ (i : ℕ). replicate {A = ℕ} i 0) (sym q),
+    )
 
 -- ---- a play begins
 

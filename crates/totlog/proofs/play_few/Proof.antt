@@ -1,5 +1,6 @@
 use native.Mathlib.Omega.{arith}
-use Rattle.totlog.proofs.Begin.{rows-in, zeros-in}
+use Rattle.sizes.specs.Sizes.{fewNodes}
+use Rattle.totlog.proofs.Begin.{cleared}
 use borrow.Author.Needs.{needs}
 use Rattle.totlog.proofs.play_few.Statement.{statement}
 use Rattle.totlog.proofs.play_few.Tie as tie
@@ -16,7 +17,7 @@ slice-aggregate-play-from-2 c = search needs
 play-from-requires : tie.Need-play-from-requires
 play-from-requires c κs =
     let pre = c .before .before .before .before .before .pre in
-    (pre .0, (rows-in _ 16 (λ leaves joins few all took. omega (arith, took, pre .1)) 1312 10336 (omega arith) (omega arith), zeros-in 10336))
+    (pre .0, cleared _ fewNodes (λ leaves joins few all took. omega (arith, took, pre .1)))
 
 same-length : tie.Need-same-length
 same-length c = search needs

@@ -1,5 +1,6 @@
 use native.Mathlib.Omega.{arith}
-use Rattle.totlog.proofs.Begin.{rows-in, zeros-in}
+use Rattle.sizes.specs.Sizes.{mostNodes}
+use Rattle.totlog.proofs.Begin.{cleared}
 use borrow.Author.Needs.{needs}
 use Rattle.totlog.proofs.play_most.Statement.{statement}
 use Rattle.totlog.proofs.play_most.Tie as tie
@@ -16,7 +17,7 @@ slice-aggregate-play-from-2 c = search needs
 play-from-requires : tie.Need-play-from-requires
 play-from-requires c κs =
     let pre = c .before .before .before .before .before .pre in
-    (pre, (rows-in _ 319 (λ leaves joins few all took. omega (arith, all)) 24946 50938 (omega arith) (omega arith), zeros-in 50938))
+    (pre, cleared _ mostNodes (λ leaves joins few all took. omega (arith, all)))
 
 same-length : tie.Need-same-length
 same-length c = search needs
