@@ -18,7 +18,7 @@ use Rattle.player.specs.declared.HeadReading.{HeadReading}
 use Rattle.player.proofs.Places.{headed, script-head}
 use Rattle.player.proofs.Refusal.{played-true, played-false, script-true, script-false, script-headless}
 use Rattle.totlog.specs.Entry.{answerOf, commandsFrom, playedFrom, Tells}
-use Rattle.totlog.specs.declared.Answer.{Answer}
+use Rattle.answer.specs.declared.Answer.{Answer}
 
 -- ---- a script that is refused at its head
 

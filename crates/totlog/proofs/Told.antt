@@ -6,7 +6,8 @@ use native.Mathlib.Omega.{arith}
 use lib.ListN.{length, replicate, take}
 use lib.Seq.{take-append-add}
 use Rattle.player.specs.Player.{Outcome, played}
-use Rattle.totlog.specs.Entry.{bytesOf, answerOf, padded, Left, wordAt, told}
+use Rattle.answer.specs.Coded.{bytesOf, padded, wordAt}
+use Rattle.totlog.specs.Entry.{answerOf, Left, told}
 
 -- Four bytes, low byte first, and back.
 four : (x : ℕ) → x % 256 + 256 * (x / 256 % 256) + 65536 * (x / 65536 % 256) + 16777216 * (x / 16777216) ≡ x

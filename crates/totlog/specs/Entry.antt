@@ -1,10 +1,12 @@
--- The answer of the entry as bytes, and what its parts are handed and come to.
+-- The answer of the entry, and what its parts are handed and come to.
 use mathlib.Core.Path.{_≡_}
 use mathlib.Core.Bool.{true, false}
-use mathlib.Core.List.{List, [], _∷_, _++_}
-use Prim.Native.Nat.{ℕ, _+_, _-_, _*_, _≤_, _<_, _/_, _%_}
-use lib.ListN.{length, getD, take, drop, replicate}
+use mathlib.Core.List.{List}
+use Prim.Native.Nat.{ℕ, _+_, _-_, _*_, _≤_, _<_}
+use lib.ListN.{length, take, drop}
 use Rattle.record.specs.Record.{bytes, steps}
+use Rattle.answer.specs.Coded.{bytesOf, padded, wordAt}
+use Rattle.answer.specs.declared.Answer.{Answer}
 use Rattle.cert.specs.State.{State, start, Head}
 use Rattle.sizes.specs.Sizes.{mostBytes, mostLeaves, leafBytes, joinBytes}
 use Rattle.define.specs.Represents.{memory}
@@ -12,21 +14,9 @@ use Rattle.player.specs.Player.{Outcome, outcome, plays, headFits, played}
 use Rattle.player.specs.Script.{Commands, readCommands}
 use Rattle.commands.specs.Standing.{Standing, Room, Reported}
 use Rattle.commands.specs.declared.Totals.{Totals}
-use Rattle.totlog.specs.declared.Answer.{Answer}
 use Rattle.totlog.specs.declared.Ending.{Ending}
 
 -- ---- the answer
-
--- Four bytes, low byte first.
-abbrev pub le32 : ℕ → List ℕ
-le32 x = (x % 256) ∷ (x / 256 % 256) ∷ (x / 65536 % 256) ∷ (x / 16777216) ∷ []
-
-abbrev pub bytesOf : Answer → List ℕ
-bytesOf a = le32 (a .number) ++ (le32 (a .place) ++ (le32 (a .length) ++ (le32 (a .steps) ++ (le32 (a .clauses) ++ le32 (a .nodes)))))
-
--- l as far as n bytes reach, zeros after it.
-abbrev pub padded : ℕ → List ℕ → List ℕ
-padded n l = take n (l ++ replicate n 0)
 
 abbrev pub answerOf : Outcome → Answer
 answerOf o = record {
@@ -58,10 +48,6 @@ pub record Tells (o : Outcome) (log : List ℕ) (a : Answer) : Type 0 where
 pub record Left (script log answer log-after answer-after : List ℕ) : Type 0 where
   pub log-is : log-after ≡ played script (length log) .log
   pub answer-is : answer-after ≡ padded (length answer) (bytesOf (answerOf (played script (length log))))
-
--- The number at a place of an answer: four bytes, low byte first.
-abbrev pub wordAt : List ℕ → ℕ → ℕ
-wordAt bs i = getD bs i 0 + 256 * getD bs (i + 1) 0 + 65536 * getD bs (i + 2) 0 + 16777216 * getD bs (i + 3) 0
 
 -- The outcome that a log and an answer of 24 bytes or more tell.
 abbrev pub told : List ℕ → List ℕ → Outcome
