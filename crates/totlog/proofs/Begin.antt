@@ -4,7 +4,7 @@ use mathlib.Core.List.{List, [], List·Memᴰ·not-nil}
 use Prim.Native.Nat.{ℕ, zero, suc, _+_, _*_, _≤_, _<_}
 use native.Mathlib.Omega.{arith}
 use lib.ListN.{length, getD, replicate, length-replicate}
-use Rattle.sizes.specs.Sizes.{mostLeaves, leafBytes, joinBytes, rowAt, storeAt}
+use Rattle.sizes.specs.Sizes.{rowAt, storeAt}
 use Rattle.record.specs.Record.{bytes, steps, clauses}
 use Rattle.record.specs.Writing.{content, buffer, written}
 use Rattle.record.proofs.Writing.{content-in}
@@ -18,7 +18,7 @@ use Rattle.define.specs.Represents.{memory, Exact}
 use Rattle.player.proofs.Formed.{formed-start, head-low}
 use Rattle.commands.specs.Standing.{Standing, Room}
 use Rattle.commands.specs.declared.Totals.{Totals}
-use Rattle.totlog.specs.Entry.{Rows, Lent}
+use Rattle.totlog.specs.Entry.{Made, Rows, Lent}
 
 -- ---- the tables
 
@@ -48,20 +48,15 @@ table-none ns h = record {
   };
 }
 
--- Tables of zeros with k rows, where k nodes are enough.
-pub cleared : (n k : ℕ)
-    → ((leaves joins : ℕ) → leaves ≤ mostLeaves → leaves + joins ≤ 128 → leafBytes * leaves + joinBytes * joins < n → leaves + joins < k)
-    → Rows n (replicate (rowAt k) 0) (replicate (storeAt k) 0)
-    × (replicate {A = ℕ} (storeAt k) 0 ≡ replicate (length (replicate {A = ℕ} (storeAt k) 0)) 0)
-cleared n k enough =
-    let p = length-replicate {A = ℕ} (rowAt k) 0 in
-    let q = length-replicate {A = ℕ} (storeAt k) 0 in (
-      record {
-        room = λ leaves joins few all took.
-            let h = enough leaves joins few all took in record { row = omega (arith, p, h); store-row = omega (arith, q, h) };
-      },
-      ap (λ (i : ℕ). replicate {A = ℕ} i 0) (sym q),
-    )
+-- k rows, where k nodes are enough.
+pub rows-in : (n k : ℕ) → ((leaves joins : ℕ) → Made n leaves joins → leaves + joins < k) → (ns store : List ℕ) → rowAt k ≤ length ns
+    → storeAt k ≤ length store → Rows n ns store
+rows-in n k enough ns store p q = record {
+  room = λ leaves joins m. let h = enough leaves joins m in record { row = omega (arith, p, h); store-row = omega (arith, q, h) };
+}
+
+pub zeros-in : (n : ℕ) → replicate {A = ℕ} n 0 ≡ replicate (length (replicate {A = ℕ} n 0)) 0
+zeros-in n = ap (λ (k : ℕ). replicate {A = ℕ} k 0) (sym (length-replicate {A = ℕ} n 0))
 
 -- ---- a play begins
 
@@ -72,7 +67,7 @@ module _ {script : List ℕ} {from : ℕ} {log : List ℕ} {h : Head} {ns store 
     (rows : Rows (length script) ns store) (zeros : store ≡ replicate (length store) 0) where
   -- The script has its head, and so a byte.
   first : Room ns store 0
-  first = rows .room 0 0 (omega arith) (omega arith) (omega (arith, l .headed, l .inside))
+  first = rows .room 0 0 (record { few-leaves = omega arith; few = omega arith; took = omega (arith, l .headed, l .inside) })
 
   blank : (i : ℕ) → getD store i 0 ≡ 0
   blank i = ap (λ (k : List ℕ). getD k i 0) zeros ∙ zero-at (length store) i

@@ -95,9 +95,11 @@ module _ {h : Head} {c : ℕ} {script : List ℕ} {cs : Commands} {ns store log 
     room-left rows a b =
         let st = g .standing in
         let t = g .took in
-        let r =
-        rows .room (leafCount (g .state .nodes)) (t .joins) (st .table .bounded .few-leaves) (omega (arith, t .counted, few-nodes (st .formed .treed)))
-        (omega (arith, t .within, after .later, after .within)) in
+        let r = rows .room (leafCount (g .state .nodes)) (t .joins) (record {
+          few-leaves = st .table .bounded .few-leaves;
+          few = omega (arith, t .counted, few-nodes (st .formed .treed));
+          took = omega (arith, t .within, after .later, after .within);
+        }) in
         record { row = omega (arith, r .row, a, st .nodes, t .counted); store-row = omega (arith, r .store-row, b, st .nodes, t .counted) }
 
     module _ {ns′ store′ log′ : List ℕ} {x : Ended} (p : Played h c k (g .state) ns′ store′ log′ x) where

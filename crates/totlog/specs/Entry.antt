@@ -70,11 +70,15 @@ commandsFrom bs from = readCommands (length bs - from) false (drop from bs)
 abbrev pub playedFrom : List ℕ → ℕ → Head → ℕ → Outcome
 playedFrom bs from h c = plays h c (commandsFrom bs from .ending) (commandsFrom bs from .list) 0 (start h)
 
--- The tables have room for a node before every command of a script of n bytes: those made take the bytes of their commands, and
--- are 128 at most.
+-- What may be made before a command of a script of n bytes: nodes take the bytes of their commands, and are 128 at most.
+pub record Made (n leaves joins : ℕ) : Type 0 where
+  pub few-leaves : leaves ≤ mostLeaves
+  pub few : leaves + joins ≤ 128
+  pub took : leafBytes * leaves + joinBytes * joins < n
+
+-- The tables have room for a node before every command of a script of n bytes.
 pub record Rows (n : ℕ) (ns store : List ℕ) : Type 0 where
-  pub room : (leaves joins : ℕ) → leaves ≤ mostLeaves → leaves + joins ≤ 128 → leafBytes * leaves + joinBytes * joins < n
-      → Room ns store (leaves + joins)
+  pub room : (leaves joins : ℕ) → Made n leaves joins → Room ns store (leaves + joins)
 
 -- The tables represent the state that a play begins with.
 pub record Begun (ns store log : List ℕ) (z : Totals) : Type 0 where

@@ -1,6 +1,6 @@
 use native.Mathlib.Omega.{arith}
-use Rattle.sizes.specs.Sizes.{fewNodes}
-use Rattle.totlog.proofs.Begin.{cleared}
+use Rattle.sizes.specs.Sizes.{fewNodes, storeAt}
+use Rattle.totlog.proofs.Begin.{rows-in, zeros-in}
 use borrow.Author.Needs.{needs}
 use Rattle.totlog.proofs.play_few.Statement.{statement}
 use Rattle.totlog.proofs.play_few.Tie as tie
@@ -17,7 +17,7 @@ slice-aggregate-play-from-2 c = search needs
 play-from-requires : tie.Need-play-from-requires
 play-from-requires c κs =
     let pre = c .before .before .before .before .before .pre in
-    (pre .0, cleared _ fewNodes (λ leaves joins few all took. omega (arith, took, pre .1)))
+    (pre .0, (rows-in _ fewNodes (λ leaves joins made. omega (arith, made .took, pre .1)) _ _ (omega arith) (omega arith), zeros-in (storeAt fewNodes)))
 
 same-length : tie.Need-same-length
 same-length c = search needs

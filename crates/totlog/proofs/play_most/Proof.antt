@@ -1,6 +1,6 @@
 use native.Mathlib.Omega.{arith}
-use Rattle.sizes.specs.Sizes.{mostNodes}
-use Rattle.totlog.proofs.Begin.{cleared}
+use Rattle.sizes.specs.Sizes.{mostNodes, storeAt}
+use Rattle.totlog.proofs.Begin.{rows-in, zeros-in}
 use borrow.Author.Needs.{needs}
 use Rattle.totlog.proofs.play_most.Statement.{statement}
 use Rattle.totlog.proofs.play_most.Tie as tie
@@ -17,7 +17,7 @@ slice-aggregate-play-from-2 c = search needs
 play-from-requires : tie.Need-play-from-requires
 play-from-requires c κs =
     let pre = c .before .before .before .before .before .pre in
-    (pre, cleared _ mostNodes (λ leaves joins few all took. omega (arith, all)))
+    (pre, (rows-in _ mostNodes (λ leaves joins made. omega (arith, made .few)) _ _ (omega arith) (omega arith), zeros-in (storeAt mostNodes)))
 
 same-length : tie.Need-same-length
 same-length c = search needs
