@@ -22,7 +22,7 @@ whole o rest =
     let steps : wordAt a 12 ≡ o .steps = four (o .steps) in
     let clauses : wordAt a 16 ≡ o .clauses = four (o .clauses) in
     let nodes : wordAt a 20 ≡ o .nodes = four (o .nodes) in
-    rw (number, place, used, steps, clauses, nodes)
+    λ i. record { number = number i; place = place i; used = used i; steps = steps i; clauses = clauses i; nodes = nodes i; log = o .log }
 
 pub told-left : (script log answer log-after answer-after : List ℕ) → Left script log answer log-after answer-after → 24 ≤ length answer
     → told log-after answer-after ≡ played script (length log)
