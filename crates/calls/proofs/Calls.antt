@@ -6,7 +6,8 @@ use native.Mathlib.Omega.{arith}
 use lib.ListN.{length, replicate, length-replicate}
 use Rattle.number.specs.Number.{Bytes}
 use Rattle.player.specs.Player.{played}
-use Rattle.totlog.specs.Entry.{bytesOf, answerOf, padded, told}
+use Rattle.answer.specs.Coded.{bytesOf, padded}
+use Rattle.totlog.specs.Entry.{answerOf, told}
 use Rattle.totlog.proofs.Told.{told-left}
 use Rattle.demands.specs.Demands.{Demand1, Demand3, Meets3}
 use Rattle.demands.proofs.Demand1.{demand-1}

@@ -51,7 +51,7 @@ module _ {h : Head} {c : ℕ} {ns store log : List ℕ} {z : Totals} {s : State}
   module _ (k : Command) (asked : firstNo (questions h (s .nodes) k) ≡ 0) (same-nodes : act k s .nodes ≡ s .nodes)
       (same-variable : act k s .next-variable ≡ s .next-variable) (store′ log′ : List ℕ) (o : Out)
       (r : Represents c (s .nodes) (memory store′ log′ o) (act k s)) (on : Onward (buffer log (z .out .at)) (buffer log′ (o .at)))
-      (size : length store′ ≡ length store) (e : Ended) (is : e ≡ endedAs (length log′) z o) where
+      (e : Ended) (is : e ≡ endedAs (length log′) z o) where
     pub ends : Played h c k s ns store′ log′ e
     unfolding endedAs
     ends = by r
@@ -62,8 +62,6 @@ module _ {h : Head} {c : ℕ} {ns store log : List ℕ} {z : Totals} {s : State}
             is ∙ rw (le-ltb (length log′) (o .at) (open-log x)) in
             rw a (went (act k s) (play-goes h c k s asked (exact-fits x)) refl (record {
               formed = formed-act h k s asked (st .formed);
-              nodes-size = st .nodes-size;
-              store-size = omega (arith, size, st .store-size);
               table = rw same-nodes (st .table);
               exact = subst (λ (t : List Node). Exact c t (memory store′ log′ o) (act k s)) (sym same-nodes) x;
               nodes = rw same-nodes (st .nodes);

@@ -22,7 +22,7 @@ use Rattle.player.proofs.Formed.{formed-act, head-low}
 use Rattle.player.proofs.Sound.{JoinFits, join-fits, sideLeaves-length}
 use Rattle.player.proofs.Tree.{few-nodes, few-variables, leafCount-leaf, leafCount-join, treed-act}
 use Rattle.player.proofs.Refusal.{play-goes}
-use Rattle.commands.specs.Standing.{Standing, Played, went}
+use Rattle.commands.specs.Standing.{Standing, Room, Played, went}
 use Rattle.commands.specs.declared.Ended.{Ended}
 use Rattle.commands.specs.declared.Totals.{Totals}
 use Rattle.commands.proofs.Ends.{fits}
@@ -30,20 +30,17 @@ use Rattle.commands.proofs.NodeMore.{exact-make}
 
 module _ {h : Head} {c : ℕ} {ns store log : List ℕ} {z : Totals} {s : State} (st : Standing h c ns (memory store log (z .out)) z s) where
   -- A command that makes the node a.
-  module _ (k : Command) (asked : firstNo (questions h (s .nodes) k) ≡ 0) (a : Node) (i : ℕ) (is : act k s ≡ make a i s) (ns′ : List ℕ)
-      (size : length ns′ ≡ length ns) (table : Table ns′ (s .nodes ++ (a ∷ []))) (e : Ended) (number : e .number ≡ 0)
+  module _ (k : Command) (asked : firstNo (questions h (s .nodes) k) ≡ 0) (a : Node) (i : ℕ) (is : act k s ≡ make a i s)
+      (room : Room ns store (z .nodes)) (ns′ : List ℕ) (table : Table ns′ (s .nodes ++ (a ∷ []))) (e : Ended) (number : e .number ≡ 0)
       (out : e .totals .out ≡ z .out) (nodes : e .totals .nodes ≡ length (s .nodes ++ (a ∷ [])))
       (leaves : e .totals .leaves ≡ leafCount (s .nodes ++ (a ∷ []))) (next : e .totals .variable ≡ s .next-variable + i) where
     after : Standing h c ns′ (memory store log (z .out)) (e .totals) (make a i s)
     unfolding make
     after = record {
       formed = subst (λ (u : State). Formed h u) is (formed-act h k s asked (st .formed));
-      nodes-size = omega (arith, size, st .nodes-size);
-      store-size = st .store-size;
       table = table;
       exact =
-          exact-make (s .nodes) a (st .table .bounded) (table .bounded) i
-          (omega (arith, st .store-size, few-nodes (st .formed .treed))) (st .formed .held) (st .exact);
+          exact-make (s .nodes) a (st .table .bounded) (table .bounded) i (omega (arith, room .store-row, st .nodes)) (st .formed .held) (st .exact);
       nodes = nodes;
       leaves = leaves;
       variable = next;
@@ -81,29 +78,29 @@ module _ {h : Head} {c : ℕ} {ns store log : List ℕ} {z : Totals} {s : State}
     low = omega (arith, low, head-low h (st .formed .head) .0);
   }
 
-  pub leaf-made : (l : ℕ) → firstNo (questions h (s .nodes) (Command.Leaf l)) ≡ 0 → known (s .nodes) l ≡ false → (ns′ : List ℕ)
-      → length ns′ ≡ length ns → Table ns′ (s .nodes ++ (leaf l ∷ [])) → (e : Ended) → e .number ≡ 0 → e .totals .out ≡ z .out
+  pub leaf-made : (l : ℕ) → firstNo (questions h (s .nodes) (Command.Leaf l)) ≡ 0 → known (s .nodes) l ≡ false
+      → Room ns store (z .nodes) → (ns′ : List ℕ) → Table ns′ (s .nodes ++ (leaf l ∷ [])) → (e : Ended) → e .number ≡ 0 → e .totals .out ≡ z .out
       → e .totals .nodes ≡ z .nodes + 1 → e .totals .leaves ≡ z .leaves + 1 → e .totals .variable ≡ z .variable
       → Played h c (Command.Leaf l) s ns′ store log e
-  leaf-made l asked new ns′ size table e a b p q r =
-      makes (Command.Leaf l) asked (leaf l) 0 (unfold act in rw (new, act)) ns′ size table e a b
+  leaf-made l asked new room ns′ table e a b p q r =
+      makes (Command.Leaf l) asked (leaf l) 0 (unfold act in rw (new, act)) room ns′ table e a b
       (omega (arith, p, st .nodes, length-snoc (s .nodes) (leaf l))) (omega (arith, q, st .leaves, leafCount-leaf (s .nodes) l))
       (omega (arith, r, st .variable))
 
   -- ---- a join
 
-  pub join-made : (l r : Side) → firstNo (questions h (s .nodes) (Command.Join l r)) ≡ 0 → (ns′ : List ℕ) → length ns′ ≡ length ns
-      → Table ns′ (s .nodes ++ (joined (s .nodes) (z .variable) l r ∷ []))
+  pub join-made : (l r : Side) → firstNo (questions h (s .nodes) (Command.Join l r)) ≡ 0 → Room ns store (z .nodes)
+      → (ns′ : List ℕ) → Table ns′ (s .nodes ++ (joined (s .nodes) (z .variable) l r ∷ []))
       → (e : Ended) → e .number ≡ 0 → e .totals .out ≡ z .out → e .totals .nodes ≡ z .nodes + 1 → e .totals .leaves ≡ z .leaves
       → e .totals .variable ≡ z .variable + len (joined (s .nodes) (z .variable) l r)
       → Played h c (Command.Join l r) s ns′ store log e
-  join-made l r asked ns′ size table e a b p q v =
+  join-made l r asked room ns′ table e a b p q v =
       let x : Node = joined (s .nodes) (z .variable) l r in
       let same : leafCount (s .nodes ++ (joined (s .nodes) (z .variable) l r ∷ [])) ≡ leafCount (s .nodes) =
       unfold joined in leafCount-join (s .nodes) (sideLeaves (s .nodes) l ++ sideLeaves (s .nodes) r) (z .variable) l r in
       let is : act (Command.Join l r) s ≡ make x (len x) s =
       unfold act in ap (λ (o : ℕ). make (joined (s .nodes) o l r) (len (joined (s .nodes) o l r)) s) (sym (st .variable)) in
-      makes (Command.Join l r) asked x (len x) is ns′ size table e a b
+      makes (Command.Join l r) asked x (len x) is room ns′ table e a b
       (omega (arith, p, st .nodes, length-snoc (s .nodes) x))
       (omega (arith, q, st .leaves, same))
       (omega (arith, v, st .variable))

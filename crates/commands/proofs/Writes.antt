@@ -92,13 +92,13 @@ module _ {h : Head} {c : ℕ} {ns store log : List ℕ} {z : Totals} {s : State}
 
     pub requested : (store′ log′ : List ℕ) (o : Out)
         → Simulates ns (λ t s. RequestIn t n v) (λ t u. serve t (requests n v d) u) (memory store log (z .out)) (memory store′ log′ o)
-        → length store′ ≡ length store → (e : Ended) → e ≡ endedAs (length log′) z o → Played h c (Command.Request n v d) s ns store′ log′ e
+        → (e : Ended) → e ≡ endedAs (length log′) z o → Played h c (Command.Request n v d) s ns store′ log′ e
     unfolding act
-    requested store′ log′ o sim size e is =
+    requested store′ log′ o sim e is =
         let t = s .nodes in
         let k = serve-nodes t (sized-ok t (st .table .bounded .sized)) (requests n v d) (requests-asked t n v d fitting) s in
         ends st (Command.Request n v d) asked (k .0) (k .1) store′ log′ o
-        (sim .does c t s (st .table) request-in (exact (st .exact))) (sim .onward) size e is
+        (sim .does c t s (st .table) request-in (exact (st .exact))) (sim .onward) e is
 
   pub listed : Listed ns store (z .out .marks) (s .nodes) (s .stored)
   listed =
@@ -134,4 +134,4 @@ module _ {h : Head} {c : ℕ} {ns store log : List ℕ} {z : Totals} {s : State}
   unfolding act
   close-ends log′ o wrote step marks count e is =
       ends st Command.Close close-asked (unfold delete in refl) (unfold delete in refl) store log′ o
-      (closed (st .exact) log′ o wrote step marks count) (wrote .onward) refl e is
+      (closed (st .exact) log′ o wrote step marks count) (wrote .onward) e is

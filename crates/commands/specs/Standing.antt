@@ -2,10 +2,10 @@
 use mathlib.Core.Path.{_≡_}
 use mathlib.Core.Bool.{cond}
 use mathlib.Core.List.{List}
-use Prim.Native.Nat.{ℕ, _≤_}
+use Prim.Native.Nat.{ℕ, _+_, _≤_}
 use lib.Dec.{ltb}
 use lib.ListN.{length, take}
-use Rattle.sizes.specs.Sizes.{nodesSize, storeSize}
+use Rattle.sizes.specs.Sizes.{rowAt, storeAt}
 use Rattle.record.specs.Record.{bytes, clauses}
 use Rattle.totdb.specs.Nodes.{leafCount}
 use Rattle.cert.specs.State.{State, Head}
@@ -21,8 +21,6 @@ use Rattle.commands.specs.declared.Totals.{Totals}
 -- The tables, the log of c bytes and the totals represent the state s, which the head h led to.
 pub record Standing (h : Head) (c : ℕ) (ns : List ℕ) (m : Memory) (z : Totals) (s : State) : Type 0 where
   pub formed : Formed h s
-  pub nodes-size : nodesSize ≤ length ns
-  pub store-size : storeSize ≤ length (m .store)
   pub table : Table ns (s .nodes)
   pub exact : Exact c (s .nodes) m s
   pub nodes : z .nodes ≡ length (s .nodes)
@@ -44,12 +42,18 @@ pub data Played (h : Head) (c : ℕ) (k : Command) (s : State) (ns store log : L
       → Standing h c ns (memory store log (e .totals .out)) (e .totals) u → Played h c k s ns store log e
   stopped : (n : ℕ) → play h c k s ≡ refused n → e .number ≡ n → Reported c log (e .totals) s → Played h c k s ns store log e
 
--- What a command needs of the tables: they represent some state.
+-- The tables have a row for one more than n nodes.
+pub record Room (ns store : List ℕ) (n : ℕ) : Type 0 where
+  pub row : rowAt (n + 1) ≤ length ns
+  pub store-row : storeAt (n + 1) ≤ length store
+
+-- What a command needs of the tables: they represent some state, and have room for a node.
 pub record Ready (ns store log : List ℕ) (z : Totals) : Type 0 where
   pub head : Head
   pub capacity : ℕ
   pub state : State
   pub standing : Standing head capacity ns (memory store log (z .out)) z state
+  pub room : Room ns store (z .nodes)
 
 -- ---- the end of a command
 

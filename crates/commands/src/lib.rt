@@ -12,7 +12,7 @@ ghost use Rattle.rows.specs.Rows.{Table};
 ghost use Rattle.define.specs.Represents.{memory};
 ghost use Rattle.player.specs.Player.{firstNo, fitsOver, questions};
 ghost use Rattle.player.specs.declared.Command.{Command};
-ghost use Rattle.commands.specs.Standing.{Standing, Played, Ready, endedAs};
+ghost use Rattle.commands.specs.Standing.{Standing, Room, Played, Ready, endedAs};
 
 // How far the play is: the writing, the nodes, the leaves among them, and the next variable.
 pub struct Totals {
@@ -32,7 +32,7 @@ pub struct Ended {
 fn leaf(nodes: &mut [u32], t: Totals, first_variable: u32, literal: u32) -> Ended
     requires { ⌜ ((store log : List ℕ) × (r : Ready (now nodes) store log t) × («first_variable» ≡ r .head .variable)) ⌝ }
     ensures { λ r. ⌜ ((h : Head) (c : ℕ) (store log : List ℕ) (s : State) → «first_variable» ≡ h .variable
-        → Standing h c (now (nodes .entry)) (memory store log (t .out)) t s
+        → Standing h c (now (nodes .entry)) (memory store log (t .out)) t s → Room (now (nodes .entry)) store (t .nodes)
         → Played h c (Command.Leaf literal) s (now (nodes .exit)) store log r) ⌝ }
 {
     if first_variable <= literal / 2 {
@@ -125,7 +125,7 @@ fn ask_join(nodes: &[u32], count: usize, l: Side, r: Side) -> u32
 fn join(nodes: &mut [u32], t: Totals, l: Side, r: Side) -> Ended
     requires { ⌜ ((store log : List ℕ) × Ready (now nodes) store log t) ⌝ }
     ensures { λ e. ⌜ ((h : Head) (c : ℕ) (store log : List ℕ) (s : State) → Standing h c (now (nodes .entry)) (memory store log (t .out)) t s
-        → Played h c (Command.Join l r) s (now (nodes .exit)) store log e) ⌝ }
+        → Room (now (nodes .entry)) store (t .nodes) → Played h c (Command.Join l r) s (now (nodes .exit)) store log e) ⌝ }
 {
     let number = ask_join(nodes, t.nodes, l, r);
     if number != 0 {

@@ -6,7 +6,7 @@ use lib.ListN.{length, take}
 use lib.Seq.{length-take-le}
 use Rattle.player.specs.Player.{played, mostBytes}
 use Rattle.totlog.specs.Entry.{answerOf}
-use Rattle.totlog.specs.declared.Answer.{Answer}
+use Rattle.answer.specs.declared.Answer.{Answer}
 use Rattle.player.proofs.Refusal.{padded}
 use Rattle.order.specs.Order.{sorted}
 use Rattle.listing.specs.Line.{line, linesAt}

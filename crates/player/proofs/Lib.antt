@@ -9,6 +9,7 @@ pub mod Runs
 pub mod Scripts
 pub mod Counts
 pub mod Tree
+pub mod NodeBytes
 pub mod Values
 pub mod Decoded
 pub mod Different

@@ -7,9 +7,10 @@ use native.Mathlib.Decide.{decLt}
 use lib.ListN.{length, getD, replicate, length-append, length-replicate, List·getD-eq-default}
 use lib.Seq.{ext-getD, getD-take, length-take-le}
 use Rattle.player.specs.Player.{played}
-use Rattle.totlog.specs.Entry.{answerOf, padded, Left, wordAt, told}
-use Rattle.totlog.specs.declared.Answer.{Answer}
-use Rattle.totlog.proofs.Fills.{pad-in, pad-past}
+use Rattle.answer.specs.Coded.{padded, wordAt}
+use Rattle.answer.specs.declared.Answer.{Answer}
+use Rattle.answer.proofs.Fills.{pad-in, pad-past}
+use Rattle.totlog.specs.Entry.{answerOf, Left, told}
 use Rattle.totlog.proofs.Told.{told-left}
 use Rattle.replay.specs.Compare.{Met}
 

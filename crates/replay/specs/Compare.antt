@@ -3,8 +3,9 @@ use mathlib.Core.Path.{_≡_}
 use mathlib.Core.List.{List}
 use Prim.Native.Nat.{ℕ}
 use Rattle.player.specs.Player.{played}
-use Rattle.totlog.specs.Entry.{answerOf, padded}
-use Rattle.totlog.specs.declared.Answer.{Answer}
+use Rattle.answer.specs.Coded.{padded}
+use Rattle.answer.specs.declared.Answer.{Answer}
+use Rattle.totlog.specs.Entry.{answerOf}
 
 -- A script, played on a log of so many bytes, has the six numbers recorded, and the recorded log with zeros after it.
 pub record Met (script : List ℕ) (capacity : ℕ) (answer : Answer) (recorded : List ℕ) : Type 0 where

@@ -1,12 +1,13 @@
 // A case played through the library, and its answer and log held to the recorded ones.
 use crate::report;
-use totlog::Answer;
+use answer::Answer;
 ghost use mathlib.Core.Bool.{true, false};
 ghost use mathlib.Core.Path.{_≡_};
 ghost use Prim.Native.Nat.{ℕ, _+_, _<_, _≤_};
 ghost use lib.ListN.{length, getD};
 ghost use Rattle.player.specs.Player.{played};
-ghost use Rattle.totlog.specs.Entry.{answerOf, wordAt};
+ghost use Rattle.answer.specs.Coded.{wordAt};
+ghost use Rattle.totlog.specs.Entry.{answerOf};
 ghost use Rattle.replay.specs.Compare.{Met};
 
 fn wide(x: u8) -> u32

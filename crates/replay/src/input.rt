@@ -1,7 +1,7 @@
 // Standard input, read piece by piece.
+use answer::Answer;
 use libc::STDIN_FILENO;
 use number::Reading;
-use totlog::Answer;
 
 pub enum AnswerReading {
     Answer(Answer),

@@ -1,6 +1,6 @@
 // What the program prints.
+use answer::Answer;
 use libc::STDOUT_FILENO;
-use totlog::Answer;
 ghost use Prim.Native.Nat.{_≤_};
 
 fn text(s: &[u8]) {

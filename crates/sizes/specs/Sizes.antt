@@ -17,6 +17,26 @@ mostLeaves = 64
 abbrev pub mostNodes : ℕ
 mostNodes = 319
 
+-- The least bytes of a leaf's command, and of a join's.
+abbrev pub leafBytes : ℕ
+leafBytes = 2
+
+abbrev pub joinBytes : ℕ
+joinBytes = 7
+
+-- The nodes of the smaller tables, and the bytes of a script that makes no more.
+abbrev pub fewNodes : ℕ
+fewNodes = 16
+
+abbrev pub fewBytes : ℕ
+fewBytes = 32
+
+abbrev pub someNodes : ℕ
+someNodes = 128
+
+abbrev pub someBytes : ℕ
+someBytes = 576
+
 -- The values of a node: no more than there are leaves.
 abbrev pub width : ℕ
 width = 64

@@ -15,6 +15,20 @@ pub const MOST_JOINS: usize = 255;
 
 pub const MOST_NODES: usize = MOST_LEAVES + MOST_JOINS;
 
+// The least bytes of a leaf's command, and of a join's.
+pub const LEAF_BYTES: usize = 2;
+
+pub const JOIN_BYTES: usize = 7;
+
+// The nodes of the smaller tables, and the bytes of a script that makes no more.
+pub const FEW_NODES: usize = 16;
+
+pub const FEW_BYTES: usize = LEAF_BYTES * FEW_NODES;
+
+pub const SOME_NODES: usize = 128;
+
+pub const SOME_BYTES: usize = LEAF_BYTES * MOST_LEAVES + JOIN_BYTES * (SOME_NODES - MOST_LEAVES);
+
 // The values of a node: no more than there are leaves.
 pub const WIDTH: usize = MOST_LEAVES;
 
@@ -48,6 +62,10 @@ pub const SIDE_WINDOW: usize = 4;
 
 pub const NODES_SIZE: usize = MOST_LEAVES + ROW * MOST_NODES;
 
+pub const FEW_NODES_SIZE: usize = MOST_LEAVES + ROW * FEW_NODES;
+
+pub const SOME_NODES_SIZE: usize = MOST_LEAVES + ROW * SOME_NODES;
+
 // ---- the store: the places of the stored definitions in the order of their writing, then a row for each node
 
 // No definition takes fewer than eight bytes of a log.
@@ -65,3 +83,7 @@ pub const RIGHT_WINDOW: usize = 68;
 pub const HELD: usize = 69;
 
 pub const STORE_SIZE: usize = TRAIL + STORE_ROW * MOST_NODES;
+
+pub const FEW_STORE_SIZE: usize = TRAIL + STORE_ROW * FEW_NODES;
+
+pub const SOME_STORE_SIZE: usize = TRAIL + STORE_ROW * SOME_NODES;

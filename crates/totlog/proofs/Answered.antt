@@ -11,7 +11,7 @@ use Rattle.cert.specs.State.{Head, start}
 use Rattle.player.specs.Player.{outcome, Outcome, plays, Padded}
 use Rattle.player.specs.Script.{Commands}
 use Rattle.totlog.specs.Entry.{answerAfter, answerOf, Finished, Tells}
-use Rattle.totlog.specs.declared.Answer.{Answer}
+use Rattle.answer.specs.declared.Answer.{Answer}
 use Rattle.totlog.specs.declared.Ending.{Ending}
 
 module _ {h : Head} {c : ℕ} {cs : Commands} {log : List ℕ} {r : Ending} (f : Finished h c cs log r) where

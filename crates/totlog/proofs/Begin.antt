@@ -1,10 +1,10 @@
--- What a play begins with: tables of zeros, and a log of which nothing is written.
-use mathlib.Core.Path.{_≡_, refl, _∙_}
+-- What a play begins with: a table of no nodes, a store of zeros, and a log of which nothing is written.
+use mathlib.Core.Path.{_≡_, refl, sym, _∙_, ap}
 use mathlib.Core.List.{List, [], List·Memᴰ·not-nil}
-use Prim.Native.Nat.{ℕ, zero, suc}
+use Prim.Native.Nat.{ℕ, zero, suc, _+_, _*_, _≤_, _<_}
 use native.Mathlib.Omega.{arith}
 use lib.ListN.{length, getD, replicate, length-replicate}
-use Rattle.sizes.specs.Sizes.{nodesSize, storeSize}
+use Rattle.sizes.specs.Sizes.{rowAt, storeAt}
 use Rattle.record.specs.Record.{bytes, steps, clauses}
 use Rattle.record.specs.Writing.{content, buffer, written}
 use Rattle.record.proofs.Writing.{content-in}
@@ -16,11 +16,11 @@ use Rattle.rows.specs.Rows.{leafLiterals, Table}
 use Rattle.define.specs.Store.{slot}
 use Rattle.define.specs.Represents.{memory, Exact}
 use Rattle.player.proofs.Formed.{formed-start, head-low}
-use Rattle.commands.specs.Standing.{Standing}
+use Rattle.commands.specs.Standing.{Standing, Room}
 use Rattle.commands.specs.declared.Totals.{Totals}
-use Rattle.totlog.specs.Entry.{Lent}
+use Rattle.totlog.specs.Entry.{Made, Rows, Lent}
 
--- ---- tables of zeros
+-- ---- the tables
 
 zero-at : (n i : ℕ) → _≡_ {A = ℕ} (getD (replicate n 0) i 0) 0
 zero-at zero i = refl
@@ -31,10 +31,10 @@ no-side : {p w : ℕ} {u : _} → SideAt [] p w u → ⊥
 no-side (left-at n ls o l r h e) = omega arith
 no-side (right-at n ls o l r h e) = omega arith
 
-table-none : Table (replicate nodesSize 0) []
-table-none = record {
+table-none : (ns : List ℕ) → rowAt 0 ≤ length ns → Table ns []
+table-none ns h = record {
   has = record {
-    room = omega (arith, length-replicate {A = ℕ} nodesSize 0);
+    room = h;
     row = λ n h. absurd (omega arith);
     leaves = unfold leafCount leafLiterals in refl;
   };
@@ -48,27 +48,45 @@ table-none = record {
   };
 }
 
+-- k rows, where k nodes are enough.
+pub rows-in : (n k : ℕ) → ((leaves joins : ℕ) → Made n leaves joins → leaves + joins < k) → (ns store : List ℕ) → rowAt k ≤ length ns
+    → storeAt k ≤ length store → Rows n ns store
+rows-in n k enough ns store p q = record {
+  room = λ leaves joins m. let h = enough leaves joins m in record { row = omega (arith, p, h); store-row = omega (arith, q, h) };
+}
+
+pub zeros-in : (n : ℕ) → replicate {A = ℕ} n 0 ≡ replicate (length (replicate {A = ℕ} n 0)) 0
+zeros-in n = ap (λ (k : ℕ). replicate {A = ℕ} k 0) (sym (length-replicate {A = ℕ} n 0))
+
 -- ---- a play begins
 
 abbrev pub begin : Head → Totals
 begin h = record { out = record { at = 0; marks = 0; step = h .step; clauses = 0 }; nodes = 0; leaves = 0; variable = h .variable }
 
-module _ {script : List ℕ} {from : ℕ} {log : List ℕ} {h : Head} (l : Lent script from log h) where
+module _ {script : List ℕ} {from : ℕ} {log : List ℕ} {h : Head} {ns store : List ℕ} (l : Lent script from log h)
+    (rows : Rows (length script) ns store) (zeros : store ≡ replicate (length store) 0) where
+  -- The script has its head, and so a byte.
+  first : Room ns store 0
+  first = rows .room 0 0 (record { few-leaves = omega arith; few = omega arith; took = omega (arith, l .headed, l .inside) })
+
+  blank : (i : ℕ) → getD store i 0 ≡ 0
+  blank i = ap (λ (k : List ℕ). getD k i 0) zeros ∙ zero-at (length store) i
+
   nothing-written : content (buffer log 0) ≡ written (bytes (start h .log))
   unfolding start bytes
   nothing-written = content-in log 0 (omega arith)
 
-  exact-start : Exact (length log) [] (memory (replicate storeSize 0) log (begin h .out)) (start h)
+  exact-start : Exact (length log) [] (memory store log (begin h .out)) (start h)
   unfolding start keys
   exact-start = record {
     small = l .small;
     logged = record { size = refl; is = unfold start in nothing-written; step = refl; clauses = unfold clauses in refl };
     stores = record {
-      room = omega (arith, length-replicate {A = ℕ} storeSize 0);
-      firsts = record { is = λ k u. zero-at storeSize (slot [] k) ∙ (unfold fromIn in refl) };
+      room = omega (arith, first .store-row);
+      firsts = record { is = λ k u. blank (slot [] k) ∙ (unfold fromIn in refl) };
       trail = record { count = refl; is = refl };
       holds = record { is = λ n v i. absurd (omega arith) };
-      blank = record { is = λ i b. zero-at storeSize i };
+      blank = record { is = λ i b. blank i };
     };
     consistent = record {
       one = head-low h (l .head) .1;
@@ -82,12 +100,10 @@ module _ {script : List ℕ} {from : ℕ} {log : List ℕ} {h : Head} (l : Lent 
     };
   }
 
-  pub standing-begin : Standing h (length log) (replicate nodesSize 0) (memory (replicate storeSize 0) log (begin h .out)) (begin h) (start h)
+  pub standing-begin : Standing h (length log) ns (memory store log (begin h .out)) (begin h) (start h)
   standing-begin = record {
     formed = formed-start h (l .head);
-    nodes-size = omega (arith, length-replicate {A = ℕ} nodesSize 0);
-    store-size = omega (arith, length-replicate {A = ℕ} storeSize 0);
-    table = unfold start in table-none;
+    table = unfold start in table-none ns (omega (arith, first .row));
     exact = unfold start in exact-start;
     nodes = unfold start in refl;
     leaves = unfold start leafCount in refl;

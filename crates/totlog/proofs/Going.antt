@@ -5,6 +5,7 @@ use mathlib.Core.List.{List, _∷_}
 use Prim.Native.Nat.{ℕ, zero, suc, _+_, _-_, _≤_, _<_}
 use native.Mathlib.Omega.{arith}
 use lib.ListN.{length, drop}
+use Rattle.totdb.specs.Nodes.{leafCount}
 use Rattle.cert.specs.State.{State, Head, start}
 use Rattle.define.specs.Represents.{memory}
 use Rattle.player.specs.Places.{nextAt}
@@ -12,13 +13,14 @@ use Rattle.player.specs.Player.{plays, outcome, Outcome}
 use Rattle.player.specs.Script.{Commands, closes, readCommands, stop, before}
 use Rattle.player.specs.declared.Command.{Command}
 use Rattle.player.specs.declared.CommandReading.{CommandReading}
+use Rattle.player.proofs.NodeBytes.{Took, took-on}
 use Rattle.player.proofs.Refusal.{play-refused, plays-done, plays-ended, plays-accepted, plays-refused}
 use Rattle.player.proofs.Tree.{few-nodes}
-use Rattle.commands.specs.Standing.{Standing, Reported, Played, went, stopped}
+use Rattle.commands.specs.Standing.{Standing, Room, Reported, Played, went, stopped}
 use Rattle.commands.specs.declared.Ended.{Ended}
 use Rattle.commands.specs.declared.Totals.{Totals}
 use Rattle.commands.proofs.Ends.{fits, reported}
-use Rattle.totlog.specs.Entry.{Finished}
+use Rattle.totlog.specs.Entry.{Rows, Finished}
 use Rattle.totlog.specs.declared.Ending.{Ending}
 use Rattle.totlog.proofs.Next.{After, rest-end, rest-refuse, rest-command}
 
@@ -33,6 +35,7 @@ pub record Going (h : Head) (c : ℕ) (script : List ℕ) (cs : Commands) (ns st
   pub fuel : ℕ
   pub enough : length script - at ≤ fuel
   pub is : playsAll h c cs 0 (start h) ≡ playsAll h c (readCommands fuel closed (drop at script)) place state
+  pub took : Took at (state .nodes)
 
 module _ {h : Head} {c : ℕ} {script : List ℕ} {cs : Commands} {ns store log : List ℕ} {z : Totals} {at place : ℕ} {closed : Bool}
     (inside : at ≤ length script) (g : Going h c script cs ns store log z at place closed) where
@@ -87,6 +90,18 @@ module _ {h : Head} {c : ℕ} {script : List ℕ} {cs : Commands} {ns store log 
     pub end-inside : e ≤ length script
     end-inside = after .within
 
+    pub room-left : {ns₀ store₀ : List ℕ} → Rows (length script) ns₀ store₀ → length ns ≡ length ns₀ → length store ≡ length store₀
+        → Room ns store (z .nodes)
+    room-left rows a b =
+        let st = g .standing in
+        let t = g .took in
+        let r = rows .room (leafCount (g .state .nodes)) (t .joins) (record {
+          few-leaves = st .table .bounded .few-leaves;
+          few = omega (arith, t .counted, few-nodes (st .formed .treed));
+          took = omega (arith, t .within, after .later, after .within);
+        }) in
+        record { row = omega (arith, r .row, a, st .nodes, t .counted); store-row = omega (arith, r .store-row, b, st .nodes, t .counted) }
+
     module _ {ns′ store′ log′ : List ℕ} {x : Ended} (p : Played h c k (g .state) ns′ store′ log′ x) where
       pub goes-on : x .number ≡ 0 → (place′ : ℕ) → place′ ≡ place + 1 → (closed′ : Bool) → closed′ ≡ closes k
           → Going h c script cs ns′ store′ log′ (x .totals) e place′ closed′
@@ -101,6 +116,7 @@ module _ {h : Head} {c : ℕ} {script : List ℕ} {cs : Commands} {ns store log 
             enough = after .still;
             is = g .is ∙ is-after ∙ plays-accepted h c (rest .ending) k (rest .list) place (g .state) u q
                 ∙ (rw (a, b) (unfold rest in ap (λ (i : ℕ). playsAll h c (readCommands (after .left) (closes k) (drop e script)) i u) (omega arith)));
+            took = took-on h (g .state) (g .standing .formed .sound) at e (g .took) c k u q (after .takes);
           }
           by (stopped n q m r) = absurd (omega (arith, play-refused h c k (g .state) n q))
 

@@ -18,7 +18,7 @@ use Rattle.player.specs.declared.HeadReading.{HeadReading}
 use Rattle.player.proofs.Places.{headed, script-head}
 use Rattle.player.proofs.Refusal.{played-true, played-false, script-true, script-false, script-headless}
 use Rattle.totlog.specs.Entry.{answerOf, commandsFrom, playedFrom, Tells}
-use Rattle.totlog.specs.declared.Answer.{Answer}
+use Rattle.answer.specs.declared.Answer.{Answer}
 
 -- ---- a script that is refused at its head
 
@@ -78,14 +78,14 @@ module _ (v n : ℕ) where
 
 -- ---- the place after the head
 
-pub head-end : (bs : List ℕ) (v n e : ℕ) → headAt bs ≡ HeadReading.Head v n e → e ≤ length bs
+pub head-end : (bs : List ℕ) (v n e : ℕ) → headAt bs ≡ HeadReading.Head v n e → (0 < e) × (e ≤ length bs)
 head-end bs v n e h = by (readAt bs 0) h
   where
     by : (r : Reading) → withNumber HeadReading.Bad r (λ v a. withNumber HeadReading.Bad (readAt bs a) (λ n e. HeadReading.Head v n e)) ≡ HeadReading.Head v n e
-        → e ≤ length bs
+        → (0 < e) × (e ≤ length bs)
     by Bad k = absurd (let z : _≡_ {A = ℕ} 0 1 = cc in omega arith)
     by (Number x a) k = go (readAt bs a) refl k
       where
-        go : (r : Reading) → readAt bs a ≡ r → withNumber HeadReading.Bad r (λ n e. HeadReading.Head x n e) ≡ HeadReading.Head v n e → e ≤ length bs
+        go : (r : Reading) → readAt bs a ≡ r → withNumber HeadReading.Bad r (λ n e. HeadReading.Head x n e) ≡ HeadReading.Head v n e → (0 < e) × (e ≤ length bs)
         go Bad p q = absurd (let z : _≡_ {A = ℕ} 0 1 = cc in omega arith)
-        go (Number y d) p q = let w : d ≡ e = cc in omega (arith, readFrom-number groups bs a p .2)
+        go (Number y d) p q = let w : d ≡ e = cc in let k = readFrom-number groups bs a p in (omega (arith, k .1), omega (arith, k .2))

@@ -4,5 +4,4 @@ pub mod Going
 pub mod Begin
 pub mod Heads
 pub mod Answered
-pub mod Fills
 pub mod Told

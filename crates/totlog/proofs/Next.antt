@@ -7,10 +7,11 @@ use native.Mathlib.Omega.{arith}
 use lib.ListN.{length, drop, length-append, length-drop}
 use lib.Seq.{drop-append-seam, drop-drop}
 use Rattle.player.specs.Places.{placed, nextAt}
-use Rattle.player.specs.Script.{Next, command, refuse, end, readCommand, closes, stop, before, readCommands}
+use Rattle.player.specs.Script.{Next, command, refuse, end, readCommand, closes, stop, before, readCommands, commandNumbers}
 use Rattle.player.specs.declared.Command.{Command}
 use Rattle.player.specs.declared.CommandReading.{CommandReading}
 use Rattle.player.proofs.Coding.{refused-number}
+use Rattle.player.proofs.NodeBytes.{command-takes}
 use Rattle.player.proofs.Reading.{command-front}
 
 -- ---- the reading at a place, taken back
@@ -70,6 +71,7 @@ module _ (s : List ℕ) (closed : Bool) (at fuel : ℕ) (inside : at ≤ length 
 -- A command, and those after it.
 pub record After (s : List ℕ) (closed : Bool) (at fuel : ℕ) (c : Command) (e : ℕ) : Type 0 where
   pub later : at < e
+  pub takes : at + length (commandNumbers c) ≤ e
   pub within : e ≤ length s
   pub left : ℕ
   pub still : length s - e ≤ left
@@ -87,13 +89,14 @@ rest-command s closed at fuel inside enough c e h =
     let q : drop e s ≡ r .0 =
     ap (λ (k : ℕ). drop k s) p ∙ sym (drop-drop (length (f .0)) at s) ∙ ap (λ (k : List ℕ). drop (length (f .0)) k) (f .1)
     ∙ drop-append-seam (f .0) (r .0) in
-    by fuel enough (r .0) (r .1) (length (f .0)) (f .2) l p q
+    by fuel enough (r .0) (r .1) (length (f .0)) (f .2) l p (omega (arith, command-takes closed (drop at s) c (r .0) (r .1), length-drop at s)) q
   where
     by : (k : ℕ) → length s - at ≤ k → (r : List ℕ) → readCommand closed (drop at s) ≡ command c r → (n : ℕ) → 0 < n
-        → length s - at ≡ n + length r → e ≡ at + n → drop e s ≡ r → After s closed at k c e
-    by zero h r is n some l p q = absurd (omega arith)
-    by (suc k) h r is n some l p q = record {
+        → length s - at ≡ n + length r → e ≡ at + n → at + length (commandNumbers c) ≤ e → drop e s ≡ r → After s closed at k c e
+    by zero h r is n some l p t q = absurd (omega arith)
+    by (suc k) h r is n some l p t q = record {
       later = omega arith;
+      takes = t;
       within = omega arith;
       left = k;
       still = omega arith;

@@ -6,7 +6,8 @@ use native.Mathlib.Omega.{arith}
 use lib.ListN.{length, replicate, take}
 use lib.Seq.{take-append-add}
 use Rattle.player.specs.Player.{Outcome, played}
-use Rattle.totlog.specs.Entry.{bytesOf, answerOf, padded, Left, wordAt, told}
+use Rattle.answer.specs.Coded.{bytesOf, padded, wordAt}
+use Rattle.totlog.specs.Entry.{answerOf, Left, told}
 
 -- Four bytes, low byte first, and back.
 four : (x : ℕ) → x % 256 + 256 * (x / 256 % 256) + 65536 * (x / 65536 % 256) + 16777216 * (x / 16777216) ≡ x
@@ -21,7 +22,7 @@ whole o rest =
     let steps : wordAt a 12 ≡ o .steps = four (o .steps) in
     let clauses : wordAt a 16 ≡ o .clauses = four (o .clauses) in
     let nodes : wordAt a 20 ≡ o .nodes = four (o .nodes) in
-    rw (number, place, used, steps, clauses, nodes)
+    λ i. record { number = number i; place = place i; used = used i; steps = steps i; clauses = clauses i; nodes = nodes i; log = o .log }
 
 pub told-left : (script log answer log-after answer-after : List ℕ) → Left script log answer log-after answer-after → 24 ≤ length answer
     → told log-after answer-after ≡ played script (length log)

@@ -1,32 +1,22 @@
--- The answer of the entry as bytes, and what its parts are handed and come to.
+-- The answer of the entry, and what its parts are handed and come to.
 use mathlib.Core.Path.{_≡_}
 use mathlib.Core.Bool.{true, false}
-use mathlib.Core.List.{List, [], _∷_, _++_}
-use Prim.Native.Nat.{ℕ, _+_, _-_, _*_, _≤_, _/_, _%_}
-use lib.ListN.{length, getD, take, drop, replicate}
+use mathlib.Core.List.{List}
+use Prim.Native.Nat.{ℕ, _+_, _-_, _*_, _≤_, _<_}
+use lib.ListN.{length, take, drop}
 use Rattle.record.specs.Record.{bytes, steps}
+use Rattle.answer.specs.Coded.{bytesOf, padded, wordAt}
+use Rattle.answer.specs.declared.Answer.{Answer}
 use Rattle.cert.specs.State.{State, start, Head}
-use Rattle.sizes.specs.Sizes.{mostBytes}
+use Rattle.sizes.specs.Sizes.{mostBytes, mostLeaves, leafBytes, joinBytes}
 use Rattle.define.specs.Represents.{memory}
 use Rattle.player.specs.Player.{Outcome, outcome, plays, headFits, played}
 use Rattle.player.specs.Script.{Commands, readCommands}
-use Rattle.commands.specs.Standing.{Standing, Reported}
+use Rattle.commands.specs.Standing.{Standing, Room, Reported}
 use Rattle.commands.specs.declared.Totals.{Totals}
-use Rattle.totlog.specs.declared.Answer.{Answer}
 use Rattle.totlog.specs.declared.Ending.{Ending}
 
 -- ---- the answer
-
--- Four bytes, low byte first.
-abbrev pub le32 : ℕ → List ℕ
-le32 x = (x % 256) ∷ (x / 256 % 256) ∷ (x / 65536 % 256) ∷ (x / 16777216) ∷ []
-
-abbrev pub bytesOf : Answer → List ℕ
-bytesOf a = le32 (a .number) ++ (le32 (a .place) ++ (le32 (a .length) ++ (le32 (a .steps) ++ (le32 (a .clauses) ++ le32 (a .nodes)))))
-
--- l as far as n bytes reach, zeros after it.
-abbrev pub padded : ℕ → List ℕ → List ℕ
-padded n l = take n (l ++ replicate n 0)
 
 abbrev pub answerOf : Outcome → Answer
 answerOf o = record {
@@ -59,10 +49,6 @@ pub record Left (script log answer log-after answer-after : List ℕ) : Type 0 w
   pub log-is : log-after ≡ played script (length log) .log
   pub answer-is : answer-after ≡ padded (length answer) (bytesOf (answerOf (played script (length log))))
 
--- The number at a place of an answer: four bytes, low byte first.
-abbrev pub wordAt : List ℕ → ℕ → ℕ
-wordAt bs i = getD bs i 0 + 256 * getD bs (i + 1) 0 + 65536 * getD bs (i + 2) 0 + 16777216 * getD bs (i + 3) 0
-
 -- The outcome that a log and an answer of 24 bytes or more tell.
 abbrev pub told : List ℕ → List ℕ → Outcome
 told log answer = record {
@@ -84,6 +70,16 @@ commandsFrom bs from = readCommands (length bs - from) false (drop from bs)
 abbrev pub playedFrom : List ℕ → ℕ → Head → ℕ → Outcome
 playedFrom bs from h c = plays h c (commandsFrom bs from .ending) (commandsFrom bs from .list) 0 (start h)
 
+-- What may be made before a command of a script of n bytes: nodes take the bytes of their commands, and are 128 at most.
+pub record Made (n leaves joins : ℕ) : Type 0 where
+  pub few-leaves : leaves ≤ mostLeaves
+  pub few : leaves + joins ≤ 128
+  pub took : leafBytes * leaves + joinBytes * joins < n
+
+-- The tables have room for a node before every command of a script of n bytes.
+pub record Rows (n : ℕ) (ns store : List ℕ) : Type 0 where
+  pub room : (leaves joins : ℕ) → Made n leaves joins → Room ns store (leaves + joins)
+
 -- The tables represent the state that a play begins with.
 pub record Begun (ns store log : List ℕ) (z : Totals) : Type 0 where
   pub head : Head
@@ -99,9 +95,10 @@ pub record Finished (h : Head) (c : ℕ) (cs : Commands) (log : List ℕ) (r : E
   pub counted : state .next-step ≡ h .step + Rattle.record.specs.Record.steps (state .log)
   pub few : length (state .nodes) ≤ 128
 
--- What the entry's parts are lent: a script and a log that are not too long.
+-- What the entry's parts are lent: a script with a head, and a log, that are not too long.
 pub record Lent (script : List ℕ) (from : ℕ) (log : List ℕ) (h : Head) : Type 0 where
   pub short : length script ≤ mostBytes
+  pub headed : 0 < from
   pub inside : from ≤ length script
   pub small : length log ≤ mostBytes
   pub head : headFits h ≡ true

@@ -47,8 +47,10 @@ same-length c = search needs
 -- src/lib.rt:244:1
 returns : tie.Need-returns
 returns c =
-    let a = c .before .before .before .before .before .before .before .before .before .before .args in
-    λ h p s e st. rw (c .before .before .before .before .before .k .given .1) (c .before .before .leaf .ensures h p (a .store .now) (a .log .now) s e st)
+    let start = c .before .before .before .before .before .before .before .before .before .before in
+    let a = start .args in
+    λ h p s e st.
+    rw (c .before .before .before .before .before .k .given .1) (c .before .before .leaf .ensures h p (a .store .now) (a .log .now) s e st (start .pre .0 .room))
 
 -- src/lib.rt:244:1
 same-length-2 : tie.Need-same-length-2
@@ -57,8 +59,10 @@ same-length-2 c = search needs
 -- src/lib.rt:244:1
 returns-2 : tie.Need-returns-2
 returns-2 c =
-    let a = c .before .before .before .before .before .before .before .before .before .before .args in
-    λ h p s e st. rw (c .before .before .before .before .before .k2 .given .1) (c .before .before .join .ensures h p (a .store .now) (a .log .now) s st)
+    let start = c .before .before .before .before .before .before .before .before .before .before in
+    let a = start .args in
+    λ h p s e st.
+    rw (c .before .before .before .before .before .k2 .given .1) (c .before .before .join .ensures h p (a .store .now) (a .log .now) s st (start .pre .0 .room))
 
 -- src/lib.rt:244:1
 same-length-3 : tie.Need-same-length-3

@@ -23,7 +23,7 @@ same-length c = search needs
 -- src/lib.rt:133:9
 returns : tie.Need-returns
 returns c =
-    λ h p store log s st.
+    λ h p store log s st room.
     let a = c .before .before .before .before .args in
     refused-early st (Command.Join (a .l) (a .r)) (c .before .ask-join .result) (omega (arith, c .if1 .taken))
     (sym (c .before .ask-join .ensures h (s .nodes) (st .table) (sym (st .nodes)))) _ refl refl
@@ -37,7 +37,7 @@ add-join-requires c κs =
     let st = r .standing in
     let asked = sym (c .before .before .ask-join .ensures (r .head) (r .state .nodes) (st .table) (sym (st .nodes))) ∙ c .before .if1 .left in
     let j = joinable st (a .l) (a .r) asked in
-    (omega (arith, st .nodes-size, j .room), (r .state .nodes, j))
+    (omega (arith, r .room .row), (r .state .nodes, j))
 
 -- src/lib.rt:142:16
 add-t14 : tie.Need-add-t14
@@ -75,11 +75,11 @@ same-length-2 c = search needs
 -- src/lib.rt:126:1
 returns-2 : tie.Need-returns-2
 returns-2 c =
-    λ h p store log s st.
+    λ h p store log s st room.
     let a = c .before .before .before .before .before .before .before .before .before .before .before .args in
     let asked = sym (c .before .before .before .before .before .before .before .before .ask-join .ensures h (s .nodes) (st .table) (sym (st .nodes))) ∙ c .before .before .before .before .before .before .before .if1 .left in
     let added = c .before .before .before .before .before .add-join .ensures (s .nodes) (joinable st (a .l) (a .r) asked) in
-    join-made st (a .l) (a .r) asked _ (omega arith) (added .1) _ refl refl refl refl (ap (λ k. a .t .variable + k) (added .0))
+    join-made st (a .l) (a .r) asked room _ (added .1) _ refl refl refl refl (ap (λ k. a .t .variable + k) (added .0))
 
 pub join-spec : {M : Type 1} → statement M
 join-spec =

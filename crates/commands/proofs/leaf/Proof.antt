@@ -19,7 +19,7 @@ use Rattle.pb.proofs.neg.Reads as neg-reads
 -- src/lib.rt:40:9
 returns : tie.Need-returns
 returns c =
-    λ h p store log s e st.
+    λ h p store log s e st room.
     let a = c .before .before .args in
     refused-early st (Command.Leaf (a .literal)) 6 (omega arith) (leaf-6 h (s .nodes) (a .literal) (unfold variable in omega arith)) _ refl refl
 
@@ -34,7 +34,7 @@ same-length c = search needs
 -- src/lib.rt:46:9
 returns-2 : tie.Need-returns-2
 returns-2 c =
-    λ h p store log s e st.
+    λ h p store log s e st room.
     let a = c .before .before .before .before .before .args in
     let there = sym (c .before .known .ensures (s .nodes) (st .table) (sym (st .leaves))) ∙ c .if2 .taken in
     leaf-there st (a .literal) (leaf-known h (s .nodes) (a .literal) (unfold variable in omega arith) there) there _ refl refl
@@ -54,7 +54,7 @@ same-length-2 c = search needs
 -- src/lib.rt:52:9
 returns-3 : tie.Need-returns-3
 returns-3 c =
-    λ h p store log s e st.
+    λ h p store log s e st room.
     let a = c .before .before .before .before .before .before .before .before .before .args in
     let new = sym (c .before .before .before .before .before .known .ensures (s .nodes) (st .table) (sym (st .leaves))) ∙ c .before .before .before .before .if2 .left in
     let negated = sym (c .before .known2 .ensures (s .nodes) (st .table) (sym (st .leaves))) ∙ c .if3 .taken in
@@ -68,7 +68,7 @@ same-length-3 c = search needs
 -- src/lib.rt:58:9
 returns-4 : tie.Need-returns-4
 returns-4 c =
-    λ h p store log s e st.
+    λ h p store log s e st room.
     let a = c .before .before .before .before .before .before .before .before .before .before .before .args in
     let new = sym (c .before .before .before .before .before .before .before .known .ensures (s .nodes) (st .table) (sym (st .leaves))) ∙ c .before .before .before .before .before .before .if2 .left in
     let negated = sym (c .before .before .before .known2 .ensures (s .nodes) (st .table) (sym (st .leaves))) ∙ c .before .before .if3 .left in
@@ -84,7 +84,7 @@ add-leaf-requires c κs =
     let st = r .standing in
     let below : variable (a .literal) < r .head .variable = unfold variable in omega (arith, start .pre .3, c .before .before .before .before .before .before .before .before .before .before .if1 .left) in
     let j = leafable st (a .literal) below (omega (arith, c .before .if4 .left)) in
-    (omega (arith, st .nodes-size, j .room), (r .state .nodes, j))
+    (omega (arith, r .room .row), (r .state .nodes, j))
 
 -- src/lib.rt:67:16
 add-t18 : tie.Need-add-t18
@@ -101,7 +101,7 @@ same-length-4 c = search needs
 -- src/lib.rt:33:1
 returns-5 : tie.Need-returns-5
 returns-5 c =
-    λ h p store log s e st.
+    λ h p store log s e st room.
     let a = c .before .before .before .before .before .before .before .before .before .before .before .before .before .before .before .before .before .before .args in
     let below : variable (a .literal) < h .variable = unfold variable in omega (arith, e, c .before .before .before .before .before .before .before .before .before .before .before .before .before .before .before .before .if1 .left) in
     let new = sym (c .before .before .before .before .before .before .before .before .before .before .before .before .before .before .known .ensures (s .nodes) (st .table) (sym (st .leaves))) ∙ c .before .before .before .before .before .before .before .before .before .before .before .before .before .if2 .left in
@@ -109,7 +109,7 @@ returns-5 c =
     let added = c .before .before .before .before .before .add-leaf .ensures (s .nodes) (leafable st (a .literal) below (omega (arith, c .before .before .before .before .before .before .before .if4 .left))) in
     leaf-made st (a .literal)
     (leaves-few h (s .nodes) (a .literal) below new (rw (c .before .before .before .before .before .before .before .before .before .before .before .neg .ensures) at negated) (omega (arith, st .leaves, c .before .before .before .before .before .before .before .if4 .left))) new
-    _ (omega arith) added _ refl refl refl refl refl
+    room _ added _ refl refl refl refl refl
 
 pub leaf-spec : {M : Type 1} → statement M
 leaf-spec =

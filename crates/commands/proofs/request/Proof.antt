@@ -53,7 +53,7 @@ returns-2 c =
     λ h p s st.
     let a = c .before .before .before .before .before .before .before .before .before .before .before .before .before .before .args in
     let asked = sym (c .before .before .before .before .before .before .before .before .before .before .ask-request .ensures h (s .nodes) (st .table) (sym (st .nodes))) ∙ c .before .before .before .before .before .before .before .before .before .if1 .left in
-    requested st (a .node) (a .value) (a .direction) asked _ _ _ (c .before .before .before .before .before .request .ensures) (omega arith) _ (c .end .ensures)
+    requested st (a .node) (a .value) (a .direction) asked _ _ _ (c .before .before .before .before .before .request .ensures) _ (c .end .ensures)
 
 pub request-spec : {M : Type 1} → statement M
 request-spec =

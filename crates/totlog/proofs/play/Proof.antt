@@ -5,9 +5,10 @@ use borrow.Author.Needs.{needs}
 use lib.ListN.{length}
 use Rattle.cert.specs.State.{Head, start}
 use Rattle.define.specs.Represents.{memory}
+use Rattle.player.proofs.NodeBytes.{took-start}
 use Rattle.commands.specs.Standing.{Standing}
 use Rattle.totlog.specs.Entry.{commandsFrom}
-use Rattle.totlog.proofs.Going.{Going, finished, stopped-reading, end-later, end-inside, goes-on, stops}
+use Rattle.totlog.proofs.Going.{Going, finished, stopped-reading, end-later, end-inside, room-left, goes-on, stops}
 use Rattle.totlog.proofs.play.Statement.{statement}
 use Rattle.totlog.proofs.play.Tie as tie
 use Rattle.totlog.proofs.play.Reads as reads
@@ -40,7 +41,7 @@ loop-holds c =
       refl,
       refl,
       refl,
-      λ h p st. record { state = start h; standing = st; fuel = length (a .script .now) - a .from; enough = omega arith; is = refl },
+      λ h p st. record { state = start h; standing = st; fuel = length (a .script .now) - a .from; enough = omega arith; is = refl; took = took-start h (a .from) },
     )
 
 -- src/lib.rt:67:13
@@ -104,9 +105,12 @@ enum-known-reading-2 c = search needs
 -- src/lib.rt:84:21
 command-requires : tie.Need-command-requires Inv-loop μ-loop
 command-requires c κs =
-    let b = c .before .before .before .before .before .before .before .before .before .before .before .before .pre .1 in
-    let g = c .before .before .before .before .before .before .before .loop .inv .5 (b .head) (b .capacity) (b .standing) in
-    (record { head = b .head; capacity = b .capacity; state = g .state; standing = g .standing }, unfold start in b .standing .variable)
+    let pre = c .before .before .before .before .before .before .before .before .before .before .before .before .pre in
+    let b = pre .1 in
+    let l = c .before .before .before .before .before .before .before .loop in
+    let g = l .inv .5 (b .head) (b .capacity) (b .standing) in
+    let reads = sym (c .before .before .before .before .before .before .next .ensures) ∙ c .before .before .before .before .reading2 .given .1 in
+    (record { head = b .head; capacity = b .capacity; state = g .state; standing = g .standing; room = room-left (l .inv .0) g reads (pre .0 .2) (l .inv .2) (l .inv .3) }, unfold start in b .standing .variable)
 
 -- src/lib.rt:89:32
 add-t26 : tie.Need-add-t26 Inv-loop μ-loop

@@ -93,9 +93,11 @@ returns-6 c =
 play-commands-requires : tie.Need-play-commands-requires
 play-commands-requires c κs =
     let a = c .before .before .before .before .before .before .before .before .before .before .before .before .args in
+    let end = head-end (a .script .now) _ _ _ (sym (c .before .before .before .before .before .before .before .head .ensures) ∙ c .before .before .before .before .before .variable .given .1) in
     record {
       short = omega arith;
-      inside = omega (arith, head-end (a .script .now) _ _ _ (sym (c .before .before .before .before .before .before .before .head .ensures) ∙ c .before .before .before .before .before .variable .given .1));
+      headed = omega (arith, end);
+      inside = omega (arith, end);
       small = omega arith;
       head = head-fits _ _ (c .before .before .before .if3 .left) (omega (arith, c .before .before .if4 .left)) (c .before .if5 .left);
     }

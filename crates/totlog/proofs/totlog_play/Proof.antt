@@ -3,7 +3,7 @@ use mathlib.Core.Path.{ap, _∙_}
 use mathlib.Core.List.{List}
 use Prim.Native.Nat.{ℕ}
 use lib.ListN.{length}
-use Rattle.totlog.specs.Entry.{bytesOf, padded}
+use Rattle.answer.specs.Coded.{bytesOf, padded}
 use borrow.Author.Needs.{needs}
 use Rattle.totlog.proofs.totlog_play.Statement.{statement}
 use Rattle.totlog.proofs.totlog_play.Tie as tie

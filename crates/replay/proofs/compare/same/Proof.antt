@@ -2,7 +2,7 @@
 use mathlib.Core.Path.{_≡_, ap}
 use mathlib.Core.Bool.{false≢true}
 use borrow.Author.Tests.{eqb-true, eqb-false}
-use Rattle.totlog.specs.declared.Answer.{Answer}
+use Rattle.answer.specs.declared.Answer.{Answer}
 use Rattle.replay.proofs.compare.same.Statement.{statement}
 use Rattle.replay.proofs.compare.same.Tie as tie
 

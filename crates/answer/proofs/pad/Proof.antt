@@ -1,4 +1,4 @@
--- `totlog::pad` meets its contract: after i turns the first i bytes are written.
+-- `answer::pad` meets its contract: after i turns the first i bytes are written.
 use borrow.Author.Needs.{needs}
 use mathlib.Core.Path.{_≡_, refl, sym, ap, _∙_}
 use mathlib.Core.List.{_++_}
@@ -6,9 +6,9 @@ use mathlib.Core.Logic.{⊎-elim}
 use Prim.Native.Nat.{_≤_, _-_}
 use lib.ListN.{length, length-set, replicate}
 use lib.Seq.{paste, paste-zero}
-use Rattle.totlog.proofs.Fills.{pad-in, pad-past, pad-more, pad-done}
-use Rattle.totlog.proofs.pad.Statement.{statement}
-use Rattle.totlog.proofs.pad.Tie as tie
+use Rattle.answer.proofs.Fills.{pad-in, pad-past, pad-more, pad-done}
+use Rattle.answer.proofs.pad.Statement.{statement}
+use Rattle.answer.proofs.pad.Tie as tie
 
 abbrev Inv-loop : tie.InvT-loop
 Inv-loop dst₀ b i₀ i-end dst i = (i ≤ i-end) × (dst ≡ paste dst₀ 0 (b ++ replicate (length dst₀) 0) i) × (length dst ≡ length dst₀)

@@ -2,12 +2,12 @@
 use mathlib.Core.Path.{_≡_, sym, ap, _∙_}
 use mathlib.Core.List.{List, _++_, append-nil}
 use Prim.Native.Nat.{ℕ, _<_, _≤_, _+_, _-_}
-use native.Mathlib.Nat.{zero-add}
+use native.Mathlib.Nat.{zero-add, le-antisymm}
+use native.Mathlib.Numerals.{add-one}
 use native.Mathlib.Omega.{arith}
 use lib.ListN.{length, getD, set, replicate, length-append, length-replicate, getD-replicate, List·getD-append}
-use lib.Seq.{paste, getD-append-add, drop-length}
-use Rattle.nodes.proofs.Copying.{copy-more, copy-all}
-use Rattle.totlog.specs.Entry.{padded}
+use lib.Seq.{paste, paste-suc, getD-append-add, drop-length}
+use Rattle.answer.specs.Coded.{padded}
 
 -- l with zeros after it, at a place of l and at one past it.
 pub pad-in : (n : ℕ) (l : List ℕ) (i : ℕ) → i < length l → getD (l ++ replicate n 0) i 0 ≡ getD l i 0
@@ -23,8 +23,8 @@ pub pad-more : (d l s : List ℕ) (i v : ℕ) → i < length d → s ≡ paste d
     → set s i v ≡ paste d 0 (l ++ replicate (length d) 0) (i + 1)
 pad-more d l s i v h p q =
     let k : i < length (l ++ replicate (length d) 0) = simp (length-append, length-replicate) (omega arith) in
-    ap (λ (n : ℕ). set s n v) (sym (zero-add i)) ∙ copy-more d 0 (l ++ replicate (length d) 0) i s v p q (omega arith) k
+    ap (λ (n : ℕ). set s n v) (sym (zero-add i)) ∙ rw (add-one, p, q) (paste-suc d 0 (l ++ replicate (length d) 0) i 0 (omega arith) k)
 
 pub pad-done : (d l s : List ℕ) (i : ℕ) → i ≤ length d → length d ≤ i → s ≡ paste d 0 (l ++ replicate (length d) 0) i → s ≡ padded (length d) l
 pad-done d l s i a b p =
-    copy-all d 0 (l ++ replicate (length d) 0) i (length d) s p a b ∙ rw (zero-add, drop-length, append-nil)
+    let e : i ≡ length d = le-antisymm a b in (rw e at p) ∙ rw (zero-add, drop-length, append-nil)

@@ -1,12 +1,12 @@
--- `totlog::bytes` meets its contract: byte by byte.
+-- `answer::bytes` meets its contract: byte by byte.
 use mathlib.Core.Path.{_≡_, refl}
 use mathlib.Core.List.{List, [], _∷_, _++_}
 use Prim.Native.Nat.{ℕ, _/_, _%_}
 use native.Mathlib.Omega.{arith}
 use borrow.Author.Needs.{needs}
-use Rattle.totlog.specs.Entry.{le32}
-use Rattle.totlog.proofs.bytes.Statement.{statement}
-use Rattle.totlog.proofs.bytes.Tie as tie
+use Rattle.answer.specs.Coded.{le32}
+use Rattle.answer.proofs.bytes.Statement.{statement}
+use Rattle.answer.proofs.bytes.Tie as tie
 
 four : (x : ℕ) {a b c d : ℕ} {l m : List ℕ} → a ≡ x % 256 → b ≡ x / 256 % 256 → c ≡ x / 65536 % 256 → d ≡ x / 16777216 → l ≡ m
     → a ∷ b ∷ c ∷ d ∷ l ≡ le32 x ++ m
