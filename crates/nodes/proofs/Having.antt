@@ -9,7 +9,7 @@ use borrow.Author.Tests.{eq-eqb, ne-eqb}
 use lib.Dec.{eqb}
 use lib.ListN.{length, getD, take}
 use lib.Seq.{getD-take, length-take-le}
-use Rattle.sizes.specs.Sizes.{takenAt}
+use Rattle.sizes.specs.Sizes.{takenColumn, takenAt}
 use Rattle.totdb.specs.Nodes.{Node, leaf, join, any, leafOf, known, leafCount, taken}
 use Rattle.rows.specs.Rows.{leafLiterals, Table}
 use Rattle.rows.proofs.Growing.{one-of}
@@ -52,7 +52,7 @@ module _ (ns : List ℕ) (count l : ℕ) where
 -- ---- nodes under a join
 
 pub taken-is : {ns : List ℕ} {t : List Node} → Table ns t → (n : ℕ) → n < length t → getD ns (takenAt n) 0 ≡ cond (taken t n) 1 0
-taken-is {ns = ns} tb n h = in-row ns n 3 (omega arith) ∙ tb .has .row n h .under
+taken-is {ns = ns} tb n h = in-row ns n takenColumn (omega arith) ∙ tb .has .row n h .under
 
 -- The test of the code.
 pub test : (x : ℕ) (b : Bool) → x ≡ cond b 1 0 → not (eqb x 0) ≡ b
