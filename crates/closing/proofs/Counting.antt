@@ -4,7 +4,7 @@ use mathlib.Core.List.{List, [], _∷_, map, flatMap}
 use Prim.Native.Nat.{ℕ, _+_, _-_, _*_, _/_, _%_, _≤_, _<_}
 use native.Mathlib.Omega.{arith}
 use lib.ListN.{length, getD}
-use Rattle.sizes.specs.Sizes.{storeAt, rowAt}
+use Rattle.sizes.specs.Sizes.{mostNodes, width, row, rowAt, leftColumn, sideLenColumn, trail, storeRow, storeAt, leftWindowColumn, rightWindowColumn}
 use Rattle.pb.specs.Sum.{neg}
 use Rattle.record.specs.Record.{Record, steps}
 use Rattle.totdb.specs.Nodes.{Node, at, range, outputs}
@@ -52,12 +52,12 @@ module _ (t : List Node) (n o m : ℕ) where
 -- ---- the row and the column of a place
 
 abbrev pub nodeOf : ℕ → ℕ
-nodeOf p = (p - 8192) / 134
+nodeOf p = (p - trail) / storeRow
 
 abbrev pub columnOf : ℕ → ℕ
-columnOf p = (p - 8192) % 134
+columnOf p = (p - trail) % storeRow
 
-divided : (n c p : ℕ) → c < 134 → p ≡ storeAt n + c → (nodeOf p ≡ n) × (columnOf p ≡ c)
+divided : (n c p : ℕ) → c < storeRow → p ≡ storeAt n + c → (nodeOf p ≡ n) × (columnOf p ≡ c)
 divided n c p h e = (omega arith, omega arith)
 
 -- A side is the left one of its node (0) or the right one (1): the place of its row, and that of its window.
@@ -66,15 +66,15 @@ record Column (t : List Node) (p w : ℕ) : Type 0 where
   pub right : ℕ
   pub there : node < length t
   pub two : right ≤ 1
-  pub row : p ≡ rowAt node + (4 + 5 * right)
-  pub slot : w ≡ storeAt node + (66 + 2 * right)
+  pub row : p ≡ rowAt node + (leftColumn + 5 * right)
+  pub slot : w ≡ storeAt node + (leftWindowColumn + 2 * right)
 
 column : {t : List Node} {p w : ℕ} {s : Side} → SideAt t p w s → Column t p w
 column (left-at n ls o l r h e) = record { node = n; right = 0; there = h; two = omega arith; row = omega arith; slot = omega arith }
 column (right-at n ls o l r h e) = record { node = n; right = 1; there = h; two = omega arith; row = omega arith; slot = omega arith }
 
 module _ {ns : List ℕ} {t : List Node} {k : Key} {p : ℕ} (s : SlotOf ns t k p) where
-  pub place-there : (8192 ≤ p) × (nodeOf p < length t) × (nodeOf p < 319)
+  pub place-there : (trail ≤ p) × (nodeOf p < length t) × (nodeOf p < mostNodes)
   place-there =
       let r = slot-row (s .table .bounded) k (s .used) in (
         omega (arith, s .is, r .above),
@@ -83,31 +83,31 @@ module _ {ns : List ℕ} {t : List Node} {k : Key} {p : ℕ} (s : SlotOf ns t k 
       )
 
   -- Its node has a row.
-  pub place-row : rowAt (nodeOf p) + 78 ≤ length ns
+  pub place-row : rowAt (nodeOf p) + row ≤ length ns
   place-row = row-there (s .table) (nodeOf p) (place-there .1) .0
 
 -- The parts of a place, by its key.
 module _ {t : List Node} where
-  real-parts : {ns : List ℕ} {n v p : ℕ} → SlotOf ns t (real n v) p → (nodeOf p ≡ n) × (columnOf p ≡ v) × (v < 66)
+  real-parts : {ns : List ℕ} {n v p : ℕ} → SlotOf ns t (real n v) p → (nodeOf p ≡ n) × (columnOf p ≡ v) × (v < leftWindowColumn)
   unfolding Used slot
   real-parts {n = n} {v} {p} s =
-      let h : v < 66 = omega (arith, s .used .2, s .table .bounded .short n (s .used .0)) in
+      let h : v < leftWindowColumn = omega (arith, s .used .2, s .table .bounded .short n (s .used .0)) in
       let q = divided n v p (omega arith) (s .is) in
       (q .0, q .1, h)
 
   -- The sum of value 0 (d = 0), or the rest of the window (d = 1).
   window-parts : {n o m : ℕ} (p : ℕ) → Bounded t → (u : WindowOf t n o m) (d : ℕ) → d ≤ 1 → p ≡ windowAt t n o m + d
-      → (j : ℕ) × (columnOf p ≡ 66 + 2 * j + d) × (j ≤ 1) × (u .place ≡ rowAt (nodeOf p) + (4 + 5 * j))
+      → (j : ℕ) × (columnOf p ≡ leftWindowColumn + 2 * j + d) × (j ≤ 1) × (u .place ≡ rowAt (nodeOf p) + (leftColumn + 5 * j))
   window-parts p b u d h e =
       let c = column (u .of) in
-      let q = divided (c .node) (66 + 2 * c .right + d) p (omega (arith, c .two)) (omega (arith, window-slot b u, c .slot)) in
+      let q = divided (c .node) (leftWindowColumn + 2 * c .right + d) p (omega (arith, c .two)) (omega (arith, window-slot b u, c .slot)) in
       (c .right, q .1, c .two, rw (q .0) (c .row))
 
 -- ---- the steps, by the column
 
 module _ {ns : List ℕ} {t : List Node} where
   -- A column before those of the windows.
-  pub real-case : (k : Key) {p : ℕ} → SlotOf ns t k p → columnOf p < 66
+  pub real-case : (k : Key) {p : ℕ} → SlotOf ns t k p → columnOf p < leftWindowColumn
       → steps (realRecords (at t (nodeOf p)) (columnOf p)) ≡ stepsOf t k
   unfolding keyRecords Used slot
   real-case (real n v) s h = let q = real-parts s in rw (q .0, q .1)
@@ -115,8 +115,8 @@ module _ {ns : List ℕ} {t : List Node} where
   real-case (window n o m) {p} s h = let q = window-parts p (s .table .bounded) (s .used) 1 (omega arith) (s .is) in absurd (omega (arith, q .1))
 
   -- The second column of a window: of the left side (0), or of the right one (1).
-  pub window-case : (j : ℕ) (k : Key) {p : ℕ} → SlotOf ns t k p → columnOf p ≡ 67 + 2 * j
-      → (getD ns (rowAt (nodeOf p) + (4 + 5 * j) + 3) 0 ≤ 64) × (2 * getD ns (rowAt (nodeOf p) + (4 + 5 * j) + 3) 0 + 1 ≡ stepsOf t k)
+  pub window-case : (j : ℕ) (k : Key) {p : ℕ} → SlotOf ns t k p → columnOf p ≡ leftWindowColumn + 1 + 2 * j
+      → (getD ns (rowAt (nodeOf p) + (leftColumn + 5 * j) + sideLenColumn) 0 ≤ width) × (2 * getD ns (rowAt (nodeOf p) + (leftColumn + 5 * j) + sideLenColumn) 0 + 1 ≡ stepsOf t k)
   unfolding Used slot
   window-case j (real n v) s h = let q = real-parts s in absurd (omega (arith, q .1, q .2))
   window-case j (window-zero n o m) {p} s h = let q = window-parts p (s .table .bounded) (s .used) 0 (omega arith) (omega (arith, s .is)) in absurd (omega (arith, q .1))
@@ -126,12 +126,12 @@ module _ {ns : List ℕ} {t : List Node} where
       let c = window-parts p b u 1 (omega arith) (s .is) in
       let side : j ≡ c .0 = omega (arith, c .1) in
       let q = window-inside b u in
-      let is : getD ns (rowAt (nodeOf p) + (4 + 5 * j) + 3) 0 ≡ m =
+      let is : getD ns (rowAt (nodeOf p) + (leftColumn + 5 * j) + sideLenColumn) 0 ≡ m =
       rw (side, ← c .3) (ap (λ (x : Shown). x .len) (shown-is (s .table) (u .of)) ∙ u .outputs) in
       (omega (arith, is, q .1, b .short n (q .0)), rw is (window-steps t n o m))
 
   -- The first column of a window.
-  pub zero-case : (k : Key) {p : ℕ} → SlotOf ns t k p → 66 ≤ columnOf p → (columnOf p ≡ 67 → ⊥) → (columnOf p ≡ 69 → ⊥)
+  pub zero-case : (k : Key) {p : ℕ} → SlotOf ns t k p → leftWindowColumn ≤ columnOf p → (columnOf p ≡ leftWindowColumn + 1 → ⊥) → (columnOf p ≡ rightWindowColumn + 1 → ⊥)
       → 1 ≡ stepsOf t k
   unfolding Used slot
   zero-case (real n v) s low a b = let q = real-parts s in absurd (omega (arith, q .1, q .2))

@@ -5,7 +5,7 @@ use mathlib.Core.List.{List, [], _∷_, _++_, map, flatMap, map-append}
 use Prim.Native.Nat.{ℕ, _+_, _-_, _*_, _^_, _≤_, _<_}
 use native.Mathlib.Omega.{arith}
 use lib.ListN.{length, getD, take, drop, length-take}
-use Rattle.sizes.specs.Sizes.{width, trail, row, rowAt, firstAt, storeAt}
+use Rattle.sizes.specs.Sizes.{mostNodes, width, row, rowAt, firstColumn, listColumn, firstAt, trail, storeRow, storeAt}
 use Rattle.pb.specs.Sum.{neg, units, keep}
 use Rattle.memo.specs.Visit.{each}
 use Rattle.memo.proofs.Unrolled.{each-append}
@@ -29,11 +29,11 @@ use Rattle.define.proofs.Slots.{window-inside, slot-inside, zero-named}
 -- ---- real definitions
 
 pub record RealBounds (ns store : List ℕ) (n v : ℕ) : Type 0 where
-  pub nodes : n < 319
+  pub nodes : n < mostNodes
   pub there : rowAt n + row ≤ length ns
   pub short : getD ns (rowAt n) 0 ≤ width
   pub values : v ≤ width + 1
-  pub room : storeAt n + 134 ≤ length store
+  pub room : storeAt n + storeRow ≤ length store
   pub low : getD ns (firstAt n) 0 ≤ 2 ^ 30
 
 pub real-bounds : {ns : List ℕ} {n v : ℕ} {m : Memory} → Represented ns (λ t s. RealOf t n v) m → RealBounds ns (m .store) n v
@@ -56,16 +56,16 @@ module _ (ns : List ℕ) (n v : ℕ) {r k : ℕ} (re : r ≡ rowAt n) (ke : k �
   row-length = rw re at ke
 
   pub real-node : (t : List Node) → Table ns t → RealOf t n v
-      → NodeOf (take (r + 14 + k - (r + 14)) (drop (r + 14) ns)) (getD ns (r + 1) 0) (at t n)
+      → NodeOf (take (r + listColumn + k - (r + listColumn)) (drop (r + listColumn) ns)) (getD ns (r + firstColumn) 0) (at t n)
   real-node t l x =
-      let q : rowAt n + 14 + k - (rowAt n + 14) ≡ len (at t n) = omega (arith, row-length, len-is l n (x .there)) in
+      let q : rowAt n + listColumn + k - (rowAt n + listColumn) ≡ len (at t n) = omega (arith, row-length, len-is l n (x .there)) in
       record {
         leaf-list = rw (re, q) (sym (list-is l n (x .there)));
         outputs = λ i a b. rw (re, first-is l n (x .there)) (from-first (at t n) i a b);
       }
 
   pub real-writes : {b d : Buffer}
-      → ((x : Node) → NodeOf (take (r + 14 + k - (r + 14)) (drop (r + 14) ns)) (getD ns (r + 1) 0) x → Puts b (flatMap numbers (realRecords x v)) d)
+      → ((x : Node) → NodeOf (take (r + listColumn + k - (r + listColumn)) (drop (r + listColumn) ns)) (getD ns (r + firstColumn) 0) x → Puts b (flatMap numbers (realRecords x v)) d)
       → (t : List Node) (f : Key → ℕ → ℕ) → Table ns t → RealOf t n v → Puts b (flatMap numbers (keyRecords f t (real n v))) d
   unfolding keyRecords
   real-writes w t f l x = w (at t n) (real-node t l x)

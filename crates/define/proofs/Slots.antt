@@ -4,7 +4,7 @@ use mathlib.Core.List.{List}
 use Prim.Native.Nat.{ℕ, _+_, _*_, _≤_, _<_}
 use native.Mathlib.Omega.{arith}
 use lib.ListN.{length}
-use Rattle.sizes.specs.Sizes.{trail, storeAt}
+use Rattle.sizes.specs.Sizes.{trail, storeAt, leftWindowColumn, rightWindowColumn}
 use Rattle.totdb.specs.Nodes.{Node, at, len, sideLen}
 use Rattle.totdb.specs.declared.Side.{Side}
 use Rattle.cert.specs.Definitions.{Key, real, window-zero, window}
@@ -24,10 +24,10 @@ pub record Named (t : List Node) (k : Key) : Type 0 where
 pub record WindowPlace (t : List Node) (p : ℕ) : Type 0 where
   pub node : ℕ
   pub there : node < length t
-  pub above : storeAt node + 66 ≤ p
-  pub below : p ≤ storeAt node + 68
+  pub above : storeAt node + leftWindowColumn ≤ p
+  pub below : p ≤ storeAt node + rightWindowColumn
   pub even : ℕ
-  pub is : p ≡ storeAt node + 66 + 2 * even
+  pub is : p ≡ storeAt node + leftWindowColumn + 2 * even
 
 window-place : {t : List Node} {p w : ℕ} {s : Side} → SideAt t p w s → WindowPlace t w
 window-place (left-at n ls o l r h e) = record { node = n; there = h; above = omega arith; below = omega arith; even = 0; is = omega arith }

@@ -6,7 +6,7 @@ use native.Mathlib.Omega.{arith}
 use lib.ListN.{length, getD, take, drop, replicate, List·getD-append}
 use lib.Seq.{getD-take, getD-drop, drop-append-le, take-append-le}
 use lib.ListN.{length-take, length-drop}
-use Rattle.sizes.specs.Sizes.{width, trail, storeAt}
+use Rattle.sizes.specs.Sizes.{mostNodes, width, trail, storeRow, storeAt, leftWindowColumn}
 use Rattle.totdb.specs.Nodes.{Node, at, len, output, outputs, outputRow, fromFirst, range}
 use Rattle.totdb.proofs.Listed.{listed-length, row-length, part-range}
 use Rattle.cert.specs.Definitions.{real, window-zero, window}
@@ -102,8 +102,8 @@ module _ {t : List Node} (b : Bounded t) (s : Shown) (w : ShownWindow t s) where
 -- ---- bounds
 
 pub record WindowBounds (store : List ℕ) (s : Shown) : Type 0 where
-  pub nodes : s .side .node < 319
-  pub room : storeAt (s .side .node) + 134 ≤ length store
+  pub nodes : s .side .node < mostNodes
+  pub room : storeAt (s .side .node) + storeRow ≤ length store
   pub values : s .side .offset + s .len ≤ width
   pub several : 1 < s .len
   pub low : s .first ≤ 2 ^ 30
@@ -135,18 +135,18 @@ window-bounds {t = t} {m = m} {s = s} b r w =
 
 pub handed : {c : ℕ} {t : List Node} {m : Memory} {u : State} {s : Shown} {os : List ℕ} {r : ℕ} → Bounded t → Exact c t m u → WindowShown t os s
     → r ≡ storeAt (s .side .node)
-    → Handed (take (r + 66 - r) (drop r (m .store))) os (stepIn (u .stored)) (s .side .node) (at t (s .side .node)) (s .side .offset) (s .len)
+    → Handed (take (r + leftWindowColumn - r) (drop r (m .store))) os (stepIn (u .stored)) (s .side .node) (at t (s .side .node)) (s .side .offset) (s .len)
 unfolding stepIn Used slot
 handed {c} {t} {m} {u} {s} {os} {r} b ex w e =
     let n = s .side .node in
     let i = window-fits b s (w .window) in
     let short = b .short n (i .0) in
     let long = w .window .long in
-    let q : r + 66 - r ≡ 66 = omega arith in
-    let read : (v : ℕ) → v < 66 → getD (take (r + 66 - r) (drop r (m .store))) v 0 ≡ getD (m .store) (storeAt n + v) 0 =
-    λ v h. rw q (getD-take 66 (drop r (m .store)) v 0 h ∙ getD-drop r (m .store) v 0 ∙ rw e) in
+    let q : r + leftWindowColumn - r ≡ leftWindowColumn = omega arith in
+    let read : (v : ℕ) → v < leftWindowColumn → getD (take (r + leftWindowColumn - r) (drop r (m .store))) v 0 ≡ getD (m .store) (storeAt n + v) 0 =
+    λ v h. rw q (getD-take leftWindowColumn (drop r (m .store)) v 0 h ∙ getD-drop r (m .store) v 0 ∙ rw e) in
     let first : (v : ℕ) → s .side .offset < v → v ≤ s .side .offset + s .len
-    → getD (take (r + 66 - r) (drop r (m .store))) v 0 ≡ fromIn (u .stored) (real n v) =
+    → getD (take (r + leftWindowColumn - r) (drop r (m .store))) v 0 ≡ fromIn (u .stored) (real n v) =
     λ v a h. read v (omega (arith, i .1, short)) ∙ ex .stores .firsts .is (real n v) (i .0, omega (arith, i .1, long), omega (arith, i .1)) in
     record {
       if-step = λ v a h. let z : fromIn (u .stored) (real n v) + 0 ≡ fromIn (u .stored) (real n v) = omega arith in rw z (sym (first v a h));
@@ -157,11 +157,11 @@ handed {c} {t} {m} {u} {s} {os} {r} b ex w e =
     }
 
 pub bounds-of : {c : ℕ} {t : List Node} {m : Memory} {u : State} {s : Shown} {os : List ℕ} {r : ℕ} → Bounded t → Exact c t m u → WindowShown t os s
-    → r ≡ storeAt (s .side .node) → Bounds (take (r + 66 - r) (drop r (m .store))) os (s .side .offset) (s .len)
+    → r ≡ storeAt (s .side .node) → Bounds (take (r + leftWindowColumn - r) (drop r (m .store))) os (s .side .offset) (s .len)
 bounds-of {c} {t} {m} {u} {s} {os} {r} b ex w e =
     let k = window-bounds b (exact ex) (w .window) in
     record {
-      size = rw (length-take (r + 66 - r) (drop r (m .store)), length-drop r (m .store)) (omega (arith, e, k .room));
+      size = rw (length-take (r + leftWindowColumn - r) (drop r (m .store)), length-drop r (m .store)) (omega (arith, e, k .room));
       values = k .values;
       several = k .several;
       inside = rw (w .list) (omega (arith, row-length (s .first) (s .side .offset + s .len) (k .values), k .values));

@@ -6,7 +6,7 @@ ghost use mathlib.Core.Path.{_≡_};
 ghost use mathlib.Core.List.{List, flatMap};
 ghost use Prim.Native.Nat.{ℕ, _+_, _^_, _≤_, _<_};
 ghost use lib.ListN.{length};
-ghost use Rattle.sizes.specs.Sizes.{width, trail, storeAt};
+ghost use Rattle.sizes.specs.Sizes.{mostBytes, width, trail, storeAt};
 ghost use Rattle.memo.specs.Visit.{each};
 ghost use Rattle.record.specs.Record.{numbers, steps};
 ghost use Rattle.record.specs.Writing.{buffer, Puts};
@@ -89,7 +89,7 @@ pub fn count_real(len: usize, value: usize) -> u32
 
 // The next `count` steps are those of the key at `slot`, whose records end at `at`.
 fn store_key(store: &mut [u32], o: Out, at: usize, slot: usize, count: u32) -> Out
-    requires { ⌜ (trail ≤ slot) × (slot < length (now store)) × (slot < 4294967296) × (count ≤ 65536) ⌝ }
+    requires { ⌜ (trail ≤ slot) × (slot < length (now store)) × (slot < 4294967296) × (count ≤ mostBytes) ⌝ }
     ensures { λ r. ⌜ kept (now (store .exit)) r ≡ keyStored slot at count (kept (now (store .entry)) o) ⌝ }
 {
     store[slot] = o.step;

@@ -3,8 +3,9 @@ use mathlib.Core.Path.{_≡_}
 use mathlib.Core.List.{List}
 use Prim.Native.Nat.{ℕ, suc}
 use lib.ListN.{take}
+use Rattle.sizes.specs.Sizes.{mostBytes}
 use Rattle.record.specs.Record.{Record, clauses}
-use Rattle.player.specs.Player.{played, mostBytes}
+use Rattle.player.specs.Player.{played}
 use Rattle.demands.specs.Demands.{Holds}
 use Rattle.demands.proofs.Holds.{some-holds}
 use Rattle.order.specs.Order.{before, sortBy}

@@ -6,7 +6,8 @@ use Prim.Native.Nat.{ℕ}
 use native.Mathlib.Omega.{arith}
 use lib.ListN.{length, take, drop, length-take}
 use lib.Seq.{take-append-seam}
-use Rattle.player.specs.Player.{played, mostBytes}
+use Rattle.sizes.specs.Sizes.{mostBytes}
+use Rattle.player.specs.Player.{played}
 use Rattle.demands.specs.Demands.{Alike, Demand3}
 use Rattle.demands.proofs.Demand3.{demand-3}
 use Rattle.demands.proofs.Worked.{first, second, head, first-commands, second-commands, first-bytes, second-bytes, alike}

@@ -4,7 +4,8 @@ use mathlib.Core.List.{List, _++_, flatMap}
 use Prim.Native.Nat.{ℕ, zero, suc, _≤_}
 use lib.ListN.{length, take}
 use lib.Seq.{length-take-le}
-use Rattle.player.specs.Player.{played, mostBytes}
+use Rattle.sizes.specs.Sizes.{mostBytes}
+use Rattle.player.specs.Player.{played}
 use Rattle.totlog.specs.Entry.{answerOf}
 use Rattle.answer.specs.declared.Answer.{Answer}
 use Rattle.player.proofs.Refusal.{padded}

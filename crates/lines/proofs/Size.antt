@@ -4,13 +4,14 @@ use mathlib.Core.List.{List, [], _∷_, flatMap}
 use Prim.Native.Nat.{ℕ, zero, suc, _+_, _*_, _^_, _≤_, _<_}
 use native.Mathlib.Omega.{arith}
 use lib.ListN.{length, length-append}
+use Rattle.sizes.specs.Sizes.{mostBytes, mostLeaves}
 use Rattle.number.specs.Number.{encode}
 use Rattle.number.proofs.Laws.{encode-some, encode-length}
 use Rattle.memo.proofs.Lists.{length-perm, flatMap-append, flatMap-perm}
 use Rattle.record.specs.Record.{Record, sum, derivation, clause, deletion, numbers, bytes, clauses}
 use Rattle.record.proofs.Bytes.{two-bytes}
 use Rattle.player.specs.Formed.{Treed}
-use Rattle.player.specs.Player.{Outcome, outcome, played, mostBytes}
+use Rattle.player.specs.Player.{Outcome, outcome, played}
 use Rattle.player.proofs.Counts.{all-keep}
 use Rattle.player.proofs.Endings.{ending}
 use Rattle.player.proofs.Refusal.{outcome-number, outcome-place}
@@ -85,7 +86,7 @@ refusal-length n c h k = simp length-append (omega (arith, decimal-length n 10 (
 
 -- ---- low numbers
 
-nodes-most : (bs : List ℕ) (capacity : ℕ) → played bs capacity .number ≡ 0 → played bs capacity .nodes ≤ 128
+nodes-most : (bs : List ℕ) (capacity : ℕ) → played bs capacity .number ≡ 0 → played bs capacity .nodes ≤ 2 * mostLeaves
 unfolding outcome
 nodes-most bs capacity e =
     let a = accepted-reads bs capacity e in

@@ -2,8 +2,9 @@
 use mathlib.Core.Path.{_≡_}
 use mathlib.Core.List.{List, _++_, flatMap, Perm}
 use Prim.Native.Nat.{ℕ}
+use Rattle.sizes.specs.Sizes.{mostBytes}
 use Rattle.record.specs.Record.{Record, clauses}
-use Rattle.player.specs.Player.{played, mostBytes}
+use Rattle.player.specs.Player.{played}
 use Rattle.demands.specs.Demands.{Holds}
 use Rattle.order.specs.Order.{Ascending}
 use Rattle.listing.specs.Line.{line}

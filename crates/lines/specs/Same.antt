@@ -4,9 +4,10 @@ use mathlib.Core.Path.{_≡_}
 use mathlib.Core.List.{List}
 use Prim.Native.Nat.{ℕ}
 use lib.ListN.{length, take}
+use Rattle.sizes.specs.Sizes.{mostBytes}
 use Rattle.number.specs.Number.{Bytes}
 use Rattle.cert.specs.State.{Head}
-use Rattle.player.specs.Player.{played, mostBytes}
+use Rattle.player.specs.Player.{played}
 use Rattle.player.specs.declared.Command.{Command}
 use Rattle.demands.specs.Demands.{Alike}
 use Rattle.lines.specs.Printed.{Shows}

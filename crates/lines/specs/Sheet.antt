@@ -4,9 +4,10 @@ use mathlib.Core.Option.{none, some}
 use mathlib.Core.List.{List, [], _∷_, _++_, flatMap}
 use Prim.Native.Nat.{ℕ, zero, suc, min, _+_, _*_}
 use lib.ListN.{length, take}
+use Rattle.sizes.specs.Sizes.{mostBytes}
 use Rattle.text.specs.Text.{spaced, laid}
 use Rattle.record.specs.Record.{clauses, decodeLog}
-use Rattle.player.specs.Player.{Outcome, played, mostBytes}
+use Rattle.player.specs.Player.{Outcome, played}
 use Rattle.listing.specs.Line.{newline, line}
 use Rattle.order.specs.Order.{sorted}
 

@@ -2,6 +2,9 @@
 ghost use Rattle.text.specs.Text.{page, Prints};
 ghost use Rattle.lines.specs.Sheet;
 
+// No sheet is longer.
+pub const MOST_SHEET: usize = 4 * sizes::MOST_BYTES + 64;
+
 // `nodes N steps S clauses C`
 fn header(out: &mut [u8], nodes: u32, steps: u32, clauses: u32) -> usize
     ensures { λ r. ⌜ Prints (page (now (out .entry)) 0) (Sheet.header nodes steps clauses) (page (now (out .exit)) r) ⌝ }
@@ -30,7 +33,7 @@ fn refusal(out: &mut [u8], number: u32, place: u32) -> usize
 pub fn sheet(script: &[u8], out: &mut [u8]) -> usize
     ensures { λ r. ⌜ Sheet.Wrote (now (script .entry)) (now (out .entry)) r (now (out .exit)) ⌝ }
 {
-    let mut log = [0u8; 65536];
+    let mut log = [0u8; sizes::MOST_BYTES];
     let a = totlog::play_into(script, &mut log);
     if a.number != 0 {
         return refusal(out, a.number, a.place);

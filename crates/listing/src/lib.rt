@@ -3,6 +3,7 @@ use places::number_at;
 ghost use mathlib.Core.List.{map, flatMap};
 ghost use Prim.Native.Nat.{_≤_};
 ghost use lib.ListN.{length};
+ghost use Rattle.sizes.specs.Sizes.{mostBytes};
 ghost use Rattle.places.specs.Walk.{numbersAt, clauseAt};
 ghost use Rattle.text.specs.Text.{page, Prints, spaced};
 ghost use Rattle.listing.specs.Line.{line, linesAt};
@@ -49,10 +50,10 @@ fn put_lines(log: &[u8], places: &[u32], out: &mut [u8], at: usize) -> usize
 
 // The lines of all the clauses of a log.
 pub fn all_lines(log: &[u8], out: &mut [u8], at: usize) -> usize
-    requires { ⌜ length (now log) ≤ 65536 ⌝ }
+    requires { ⌜ length (now log) ≤ mostBytes ⌝ }
     ensures { λ r. ⌜ Prints (page (now (out .entry)) at) (linesAt (now (log .entry))) (page (now (out .exit)) r) ⌝ }
 {
-    let mut places = [0u32; 21846];
+    let mut places = [0u32; places::MOST_CLAUSES];
     let n = places::collect(log, &mut places);
     sorting::sort(log, &mut places[..n]);
     put_lines(log, &places[..n], out, at)

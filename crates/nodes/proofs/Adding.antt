@@ -7,7 +7,7 @@ use native.Mathlib.Omega.{arith}
 use lib.Dec.{eqb}
 use lib.ListN.{length, set, take, replicate, length-set, length-append, length-take, length-drop, length-replicate}
 use lib.Seq.{paste, length-paste, take-set-le, take-suc-set, take-append-seam, set-getD}
-use Rattle.sizes.specs.Sizes.{mostLeaves, width, row, rowAt, takenAt}
+use Rattle.sizes.specs.Sizes.{mostLeaves, width, row, rowAt, takenColumn, takenAt}
 use Rattle.totdb.specs.Nodes.{Node, leaf, join, at, len, leaves, output, sideLen, sideLeaves, joined, leafCount, isOver, taken}
 use Rattle.totdb.specs.declared.Side.{Side}
 use Rattle.cert.specs.Sized.{Fit}
@@ -45,26 +45,26 @@ same-join (join k o a b ∷ t) m v l r = same-join t m v l r
 -- ---- the row before, by what is under a join
 
 module _ {ns : List ℕ} {t : List Node} (tb : Table ns t) (i : ℕ) (h : i < length t) where
-  row-long : 3 < length (rowOf ns i)
+  row-long : takenColumn < length (rowOf ns i)
   row-long = simp (length-take, length-drop) (omega (arith, tb .has .room))
 
-  same-leaf : (l : ℕ) → rowOf ns i ≡ set (rowOf ns i) 3 (cond (taken (t ++ (leaf l ∷ [])) i) 1 0)
+  same-leaf : (l : ℕ) → rowOf ns i ≡ set (rowOf ns i) takenColumn (cond (taken (t ++ (leaf l ∷ [])) i) 1 0)
   unfolding isOver
   same-leaf l =
-      sym (set-getD (rowOf ns i) 3 0)
-      ∙ rw (tb .has .row i h .under, taken-snoc t (leaf l) i) (ap (λ (y : ℕ). set (rowOf ns i) 3 y) (by (taken t i)))
+      sym (set-getD (rowOf ns i) takenColumn 0)
+      ∙ rw (tb .has .row i h .under, taken-snoc t (leaf l) i) (ap (λ (y : ℕ). set (rowOf ns i) takenColumn y) (by (taken t i)))
     where
       by : (b : Bool) → _≡_ {A = ℕ} (cond b 1 0) (cond (b || false) 1 0)
       by true = refl
       by false = refl
 
   same-marks : (ms m : List ℕ) (v : ℕ) (l r : Side) → rowOf ms i ≡ rowOf ns i
-      → rowOf (set (set ms (takenAt (l .node)) 1) (takenAt (r .node)) 1) i ≡ set (rowOf ns i) 3 (cond (taken (t ++ (join m v l r ∷ [])) i) 1 0)
+      → rowOf (set (set ms (takenAt (l .node)) 1) (takenAt (r .node)) 1) i ≡ set (rowOf ns i) takenColumn (cond (taken (t ++ (join m v l r ∷ [])) i) 1 0)
   unfolding isOver
   same-marks ms m v l r e =
       marks-are ms (l .node) (r .node) i (rw e row-long)
       ∙ rw (e, tb .has .row i h .under, taken-snoc t (join m v l r) i)
-      (ap (λ (y : ℕ). set (rowOf ns i) 3 y) (by (taken t i) (eqb (l .node) i) (eqb (r .node) i)))
+      (ap (λ (y : ℕ). set (rowOf ns i) takenColumn y) (by (taken t i) (eqb (l .node) i) (eqb (r .node) i)))
     where
       by : (b c d : Bool) → _≡_ {A = ℕ} (cond d 1 (cond c 1 (cond b 1 0))) (cond (b || (c || d)) 1 0)
       by true true true = refl

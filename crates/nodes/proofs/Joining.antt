@@ -5,7 +5,7 @@ use Prim.Native.Nat.{ℕ, zero, suc, _+_, _-_, _*_}
 use native.Mathlib.Omega.{arith}
 use lib.ListN.{length, set, drop, replicate, length-append}
 use lib.Seq.{paste, sets, take-at, take-all, drop-append-add}
-use Rattle.sizes.specs.Sizes.{width, row, leftWindow, rightWindow}
+use Rattle.sizes.specs.Sizes.{width, row, lengthColumn, firstColumn, kindColumn, leftColumn, rightColumn, listColumn, leftWindow, rightWindow}
 use Rattle.totdb.specs.declared.Side.{Side}
 use Rattle.nodes.specs.Added.{sideRow, joinRow}
 
@@ -25,16 +25,16 @@ put-list p a q n k e f =
 -- ---- the row
 
 module _ (n v : ℕ) (l r : Side) (a b : List ℕ) {p q : ℕ} (e : p ≡ length a) (f : q ≡ length b) where
-  both-lists : {x y : List ℕ} → x ≡ paste (replicate row 0) 14 a p → y ≡ paste x (14 + p) b q
-      → y ≡ replicate 14 0 ++ (a ++ (b ++ replicate (width - p - q) 0))
+  both-lists : {x y : List ℕ} → x ≡ paste (replicate row 0) listColumn a p → y ≡ paste x (listColumn + p) b q
+      → y ≡ replicate listColumn 0 ++ (a ++ (b ++ replicate (width - p - q) 0))
   both-lists {x = x} {y = y} g h =
-      let head : List ℕ = replicate 14 0 in
+      let head : List ℕ = replicate listColumn 0 in
       let first : x ≡ (head ++ a) ++ replicate (width - p) 0 =
-      g ∙ put-list head a 14 p width refl (sym e) ∙ sym (append-assoc head a (replicate (width - p) 0)) in
-      h ∙ rw first (put-list (head ++ a) b (14 + p) q (width - p) (omega (arith, length-append head a)) (sym f)
+      g ∙ put-list head a listColumn p width refl (sym e) ∙ sym (append-assoc head a (replicate (width - p) 0)) in
+      h ∙ rw first (put-list (head ++ a) b (listColumn + p) q (width - p) (omega (arith, length-append head a)) (sym f)
       ∙ append-assoc head a (b ++ replicate (width - p - q) 0))
 
-  pub row-made : {x y z w : List ℕ} → x ≡ paste (replicate row 0) 14 a p → y ≡ paste x (14 + p) b q
-      → z ≡ sets (set (set (set y 0 (p + q)) 1 (2 * v)) 2 1) 4 (sideRow l p (leftWindow n)) → w ≡ sets z 9 (sideRow r q (rightWindow n))
+  pub row-made : {x y z w : List ℕ} → x ≡ paste (replicate row 0) listColumn a p → y ≡ paste x (listColumn + p) b q
+      → z ≡ sets (set (set (set y lengthColumn (p + q)) firstColumn (2 * v)) kindColumn 1) leftColumn (sideRow l p (leftWindow n)) → w ≡ sets z rightColumn (sideRow r q (rightWindow n))
       → w ≡ joinRow n v l a r b
   row-made g h i k = k ∙ rw (i, both-lists g h, e, f)

@@ -5,7 +5,7 @@ use Prim.Native.Nat.{ℕ, zero, suc, _+_, _-_, _^_, _≤_}
 use native.Mathlib.Omega.{arith}
 use lib.ListN.{length, getD, take, drop, replicate, length-map, length-take, length-drop}
 use lib.Seq.{take-take, take-append-le, drop-append-le}
-use Rattle.sizes.specs.Sizes.{width, rowAt, listAt}
+use Rattle.sizes.specs.Sizes.{width, rowAt, firstColumn, listColumn, listAt}
 use Rattle.memo.proofs.Lists.{map-agree}
 use Rattle.totdb.specs.Nodes.{Node, at, len, leaves, output, outputs, fromFirst, range, outputRow, part, limited, plainOr, sideLen, sideLeaves, sideOutputs}
 use Rattle.totdb.specs.declared.Side.{Side}
@@ -76,27 +76,27 @@ module _ {ns : List ℕ} {t : List Node} {s : Side} {k : ℕ} (d : Sided ns t s 
     m-is : m ≡ len (at t (s .node))
     m-is = f ∙ rw e (len-is (d .table) (s .node) (d .there))
 
-    one-is : getD ns (p + 1) 0 ≡ output (at t (s .node)) 1
+    one-is : getD ns (p + firstColumn) 0 ≡ output (at t (s .node)) 1
     one-is = rw e (first-is (d .table) (s .node) (d .there))
 
-    pub outputs-ready : (getD ns (p + 1) 0 ≤ 2 ^ 30) × (m ≤ width)
+    pub outputs-ready : (getD ns (p + firstColumn) 0 ≤ 2 ^ 30) × (m ≤ width)
     outputs-ready = (
       rw one-is (d .table .bounded .low (s .node) 1 (d .there) (omega arith) (omega (arith, d .some))),
       rw m-is (row-there (d .table) (s .node) (d .there) .2),
     )
 
-    module _ {os : List ℕ} (g : os ≡ outputRow (getD ns (p + 1) 0) m) where
-      pub lists-ready : (length (take (p + 14 + 64 - (p + 14)) (drop (p + 14) ns)) ≡ width) × (length os ≡ width) × (s .offset + k ≤ width)
+    module _ {os : List ℕ} (g : os ≡ outputRow (getD ns (p + firstColumn) 0) m) where
+      pub lists-ready : (length (take (p + listColumn + width - (p + listColumn)) (drop (p + listColumn) ns)) ≡ width) × (length os ≡ width) × (s .offset + k ≤ width)
       lists-ready = (
         simp (length-take, length-drop) (omega (arith, row-there (d .table) (s .node) (d .there) .0)),
-        ap length g ∙ row-length (getD ns (p + 1) 0) m (outputs-ready .1),
+        ap length g ∙ row-length (getD ns (p + firstColumn) 0) m (outputs-ready .1),
         within,
       )
 
-      pub literals-are : part (plainOr (s .offset) (s .limit) (take (p + 14 + 64 - (p + 14)) (drop (p + 14) ns)) os) (s .offset) k ≡ sideLeaves t s
+      pub literals-are : part (plainOr (s .offset) (s .limit) (take (p + listColumn + width - (p + listColumn)) (drop (p + listColumn) ns)) os) (s .offset) k ≡ sideLeaves t s
       unfolding sideLeaves sideLen sideOutputs
       literals-are =
-          let all : p + 14 + 64 - (p + 14) ≡ width = omega arith in
+          let all : p + listColumn + width - (p + listColumn) ≡ width = omega arith in
           rw (all, g, one-is, m-is, d .length, e)
           (side-part (drop (listAt (s .node)) ns) (s .offset) (s .limit) (at t (s .node)) (list-is (d .table) (s .node) (d .there))
           (row-there (d .table) (s .node) (d .there) .2) (d .inside))

@@ -10,7 +10,7 @@ use borrow.Author.Tests.{eq-eqb, ne-eqb}
 use lib.Dec.{eqb}
 use lib.ListN.{length, getD, set, take, drop}
 use lib.Seq.{paste, take-at, drop-at, take-all, take-take, length-take-le, take-set-le, take-set-lt, drop-set-lt, drop-set-add, set-getD, set-set, getD-set-same}
-use Rattle.sizes.specs.Sizes.{row, rowAt, takenAt}
+use Rattle.sizes.specs.Sizes.{mostLeaves, row, rowAt, takenColumn, takenAt}
 use Rattle.rows.specs.Rows.{rowOf}
 use Rattle.rows.proofs.Reading.{part-take}
 
@@ -45,14 +45,14 @@ module _ (ns : List ℕ) (n : ℕ) (r : List ℕ) (inside : rowAt n + row ≤ le
 
 -- ---- a number before the rows
 
-pub leaf-kept : (ns : List ℕ) (k l i : ℕ) → k < 64 → rowOf (set ns k l) i ≡ rowOf ns i
+pub leaf-kept : (ns : List ℕ) (k l i : ℕ) → k < mostLeaves → rowOf (set ns k l) i ≡ rowOf ns i
 leaf-kept ns k l i h = ap (take row) (drop-set-lt (rowAt i) ns k l (omega arith))
 
 -- ---- the number that says whether a node stands under a join
 
 module _ (ns : List ℕ) (k y : ℕ) where
-  mark-here : rowOf (set ns (takenAt k) y) k ≡ set (rowOf ns k) 3 y
-  mark-here = ap (take row) (drop-set-add (rowAt k) ns 3 y) ∙ take-set-lt row (drop (rowAt k) ns) 3 y (omega arith)
+  mark-here : rowOf (set ns (takenAt k) y) k ≡ set (rowOf ns k) takenColumn y
+  mark-here = ap (take row) (drop-set-add (rowAt k) ns takenColumn y) ∙ take-set-lt row (drop (rowAt k) ns) takenColumn y (omega arith)
 
   pub mark-other : (i : ℕ) → k ≢ i → rowOf (set ns (takenAt k) y) i ≡ rowOf ns i
   mark-other i ne = by (decLt i k)
@@ -61,16 +61,16 @@ module _ (ns : List ℕ) (k y : ℕ) where
       by (yes h) = part-kept (takenAt k) ns (set ns (takenAt k) y) (take-set-le (takenAt k) ns (takenAt k) y (omega arith)) (rowAt i) row (omega arith)
       by (no h) = ap (take row) (drop-set-lt (rowAt i) ns (takenAt k) y (omega (arith, ne)))
 
-pub mark-is : (ns : List ℕ) (k i : ℕ) → rowOf (set ns (takenAt k) 1) i ≡ set (rowOf ns i) 3 (cond (eqb k i) 1 (getD (rowOf ns i) 3 0))
+pub mark-is : (ns : List ℕ) (k i : ℕ) → rowOf (set ns (takenAt k) 1) i ≡ set (rowOf ns i) takenColumn (cond (eqb k i) 1 (getD (rowOf ns i) takenColumn 0))
 mark-is ns k i = by (ℕ-discrete k i)
   where
-    by : Dec (k ≡ i) → rowOf (set ns (takenAt k) 1) i ≡ set (rowOf ns i) 3 (cond (eqb k i) 1 (getD (rowOf ns i) 3 0))
+    by : Dec (k ≡ i) → rowOf (set ns (takenAt k) 1) i ≡ set (rowOf ns i) takenColumn (cond (eqb k i) 1 (getD (rowOf ns i) takenColumn 0))
     by (yes e) = rw (eq-eqb k i e) (rw e (mark-here ns i 1))
-    by (no e) = rw (ne-eqb k i e) (mark-other ns k 1 i e ∙ sym (set-getD (rowOf ns i) 3 0))
+    by (no e) = rw (ne-eqb k i e) (mark-other ns k 1 i e ∙ sym (set-getD (rowOf ns i) takenColumn 0))
 
-pub marks-are : (ns : List ℕ) (k j i : ℕ) → 3 < length (rowOf ns i)
-    → rowOf (set (set ns (takenAt k) 1) (takenAt j) 1) i ≡ set (rowOf ns i) 3 (cond (eqb j i) 1 (cond (eqb k i) 1 (getD (rowOf ns i) 3 0)))
+pub marks-are : (ns : List ℕ) (k j i : ℕ) → takenColumn < length (rowOf ns i)
+    → rowOf (set (set ns (takenAt k) 1) (takenAt j) 1) i ≡ set (rowOf ns i) takenColumn (cond (eqb j i) 1 (cond (eqb k i) 1 (getD (rowOf ns i) takenColumn 0)))
 marks-are ns k j i h =
-    let u : ℕ = cond (eqb k i) 1 (getD (rowOf ns i) 3 0) in
+    let u : ℕ = cond (eqb k i) 1 (getD (rowOf ns i) takenColumn 0) in
     mark-is (set ns (takenAt k) 1) j i
-    ∙ rw (mark-is ns k i, getD-set-same (rowOf ns i) 3 u 0 h) (set-set (rowOf ns i) 3 u (cond (eqb j i) 1 u))
+    ∙ rw (mark-is ns k i, getD-set-same (rowOf ns i) takenColumn u 0 h) (set-set (rowOf ns i) takenColumn u (cond (eqb j i) 1 u))

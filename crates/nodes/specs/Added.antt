@@ -5,7 +5,7 @@ use mathlib.Core.Logic.{_≢_}
 use mathlib.Core.List.{List, [], _∷_, _++_}
 use Prim.Native.Nat.{ℕ, _+_, _-_, _*_, _^_, _≤_, _<_}
 use lib.ListN.{length, replicate}
-use Rattle.sizes.specs.Sizes.{mostLeaves, mostNodes, width, leftWindow, rightWindow}
+use Rattle.sizes.specs.Sizes.{mostLeaves, mostNodes, width, leftColumn, listColumn, leftWindow, rightWindow}
 use Rattle.totdb.specs.Nodes.{Node, at, len, sideLen, leafCount, taken}
 use Rattle.totdb.specs.declared.Side.{Side}
 use Rattle.rows.specs.Rows.{Table}
@@ -53,7 +53,7 @@ pub record Small (s : Side) : Type 0 where
 -- ---- rows
 
 abbrev pub leafRow : ℕ → List ℕ
-leafRow l = 1 ∷ l ∷ 0 ∷ 0 ∷ (replicate 10 0 ++ (l ∷ replicate 63 0))
+leafRow l = 1 ∷ l ∷ 0 ∷ 0 ∷ (replicate (listColumn - leftColumn) 0 ++ (l ∷ replicate (width - 1) 0))
 
 -- A side's numbers: with its length, and the place of its window's first steps.
 abbrev pub sideRow : Side → ℕ → ℕ → List ℕ

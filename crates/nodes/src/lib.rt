@@ -10,12 +10,14 @@ ghost use Rattle.totdb.specs.Nodes.{Node, leaf, at, len, joined, part, plainOr,
 ghost use Rattle.rows.specs.Rows.{Table};
 ghost use Rattle.nodes.specs.Added.{Leafable, Joinable, Sided, Small, leafRow, sideRow, joinRow};
 
-// A leaf has the literal. `count` is the number of leaves.
+// A leaf has the literal. `count` is the number of leaves; the newest comes first.
 pub fn known(nodes: &[u32], count: usize, literal: u32) -> bool
     requires { ⌜ ((t : List Node) × Table (now nodes) t × (leafCount t ≡ count)) ⌝ }
     ensures { λ r. ⌜ ((t : List Node) → Table (now (nodes .entry)) t → leafCount t ≡ count → r ≡ Rattle.totdb.specs.Nodes.known t literal) ⌝ }
 {
-    for i in 0..count {
+    let mut i = count;
+    while 0 < i {
+        i = i - 1;
         if nodes[i] == literal {
             return true;
         }

@@ -1,9 +1,10 @@
 -- The clauses of a log found by places, as the code reads them: any bytes are read to their end.
 use mathlib.Core.Bool.{Bool, true, false, cond}
 use mathlib.Core.List.{List, [], _∷_, map}
-use Prim.Native.Nat.{ℕ, zero, suc, _+_, _*_}
+use Prim.Native.Nat.{ℕ, zero, suc, _+_, _*_, _/_}
 use lib.Dec.{eqb, ltb}
 use lib.ListN.{length}
+use Rattle.sizes.specs.Sizes.{mostBytes}
 use Rattle.number.specs.Number.{readAt}
 use Rattle.number.specs.declared.Reading.{Reading}
 use Rattle.number.specs.declared.Reading.the-variants.{Number, Bad}
@@ -80,3 +81,7 @@ clausePlaces log = placesFrom log (length log) 0
 unfoldable pub clausesAt : List ℕ → List (List ℕ)
 unfolding placesFrom clauseAt
 clausesAt log = map (clauseAt log) (clausePlaces log)
+
+-- They are no more than this: a clause takes three bytes, or is cut off by the end.
+abbrev pub mostClauses : ℕ
+mostClauses = (mostBytes + 2) / 3

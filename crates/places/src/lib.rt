@@ -5,8 +5,12 @@ ghost use mathlib.Core.Bool.{cond};
 ghost use mathlib.Core.List.{[], _∷_, _++_};
 ghost use Prim.Native.Nat.{_+_, _*_, _≤_, _<_};
 ghost use lib.ListN.{length, take};
+ghost use Rattle.sizes.specs.Sizes.{mostBytes};
 ghost use Rattle.places.specs.Walk;
 ghost use Rattle.places.specs.Walk.{itemAt, afterNumber, afterToken, afterRecord, isClause, countPlace, clausePlaces};
+
+// The clauses of a log are no more than this: a clause takes three bytes, or is cut off by the end.
+pub const MOST_CLAUSES: usize = (sizes::MOST_BYTES + 2) / 3;
 
 // A number of a log, with the place after it.
 pub struct Item {
@@ -87,7 +91,7 @@ fn after_record(log: &[u8], at: usize) -> usize
 
 // Adds the place of the clause of the record at a place, if it has one, to n others. What stands after them is open.
 fn add(log: &[u8], places: &mut [u32], n: usize, at: usize) -> usize
-    requires { ⌜ (length (now log) ≤ 65536) × (n < length (now places)) × (at ≤ length (now log)) ⌝ }
+    requires { ⌜ (length (now log) ≤ mostBytes) × (n < length (now places)) × (at ≤ length (now log)) ⌝ }
     ensures { λ r. ⌜ (r ≡ cond (isClause (now (log .entry)) at) (n + 1) n) × (take r (now (places .exit))
         ≡ take n (now (places .entry)) ++ cond (isClause (now (log .entry)) at) (countPlace (now (log .entry)) at ∷ []) []) ⌝ }
 {
@@ -100,10 +104,9 @@ fn add(log: &[u8], places: &mut [u32], n: usize, at: usize) -> usize
     n + 1
 }
 
-// Collects the places of the clauses of a log, in its order; what stands after them is open. A clause takes three bytes, or is
-// cut off by the end.
+// Collects the places of the clauses of a log, in its order; what stands after them is open.
 pub fn collect(log: &[u8], places: &mut [u32]) -> usize
-    requires { ⌜ (length (now log) ≤ 65536) × (length (now log) + 2 ≤ 3 * length (now places)) ⌝ }
+    requires { ⌜ (length (now log) ≤ mostBytes) × (length (now log) + 2 ≤ 3 * length (now places)) ⌝ }
     ensures { λ r. ⌜ (r ≤ length (now (places .entry))) × (take r (now (places .exit)) ≡ clausePlaces (now (log .entry))) ⌝ }
 {
     let mut at = 0;

@@ -8,6 +8,7 @@ use Prim.Native.Nat.{ℕ, zero, suc, _+_, _-_, _*_, _≤_, _<_, _^_}
 use native.Mathlib.Decide.{decLe}
 use native.Mathlib.Omega.{arith}
 use lib.ListN.{length}
+use Rattle.sizes.specs.Sizes.{mostHead, mostBytes, width}
 use Rattle.number.specs.Number.{groups}
 use Rattle.pb.specs.Sum.{neg}
 use Rattle.memo.proofs.Lists.{flatMap-append}
@@ -118,13 +119,13 @@ realDef-low b n zero d = omega arith
 realDef-low b n (suc v) if = omega arith
 realDef-low b n (suc v) only-if = omega arith
 
-windowDef-low : (b n f m v : ℕ) (d : Direction) → m ≤ 64 → v ≤ f + m + 1 → DefLow b (windowDef n f m v d)
+windowDef-low : (b n f m v : ℕ) (d : Direction) → m ≤ width → v ≤ f + m + 1 → DefLow b (windowDef n f m v d)
 unfolding windowDef DefLow
 windowDef-low b n f m zero d h g = omega arith
 windowDef-low b n f m (suc v) if h g = omega arith
 windowDef-low b n f m (suc v) only-if h g = omega arith
 
-module _ (t : List Node) (b : ℕ) (low : (n : ℕ) → n < length t → LowNode b (at t n)) (short : (n : ℕ) → n < length t → len (at t n) ≤ 64) where
+module _ (t : List Node) (b : ℕ) (low : (n : ℕ) → n < length t → LowNode b (at t n)) (short : (n : ℕ) → n < length t → len (at t n) ≤ width) where
   lit-low : (s : Side) → s .node < length t → s .offset + sideLen t s ≤ len (at t (s .node)) → (i : ℕ) → 1 ≤ i → i ≤ sideLen t s → (sideLit t s i < b)
       × (neg (sideLit t s i) < b)
   unfolding sideLit
@@ -219,7 +220,7 @@ append-low : (b : ℕ) (rs qs : List Record) → AllBelow b (flatMap values rs) 
 append-low b rs qs p q = subst (AllBelow b) (sym (flatMap-append values rs qs)) (below-append b (flatMap values rs) (flatMap values qs) p q)
 
 module _ (b : ℕ) (big : 300 ≤ b) (t : List Node) (sz : Sized t) (low : (n : ℕ) → n < length t → LowNode b (at t n))
-    (short : (n : ℕ) → n < length t → len (at t n) ≤ 64) where
+    (short : (n : ℕ) → n < length t → len (at t n) ≤ width) where
   steps-low : (s : State) → LowLog b t s → s .next-step + 200 ≤ b → (k : Key) (i : ℕ) → i ≤ 130 → stepIn (s .stored) k i < b
   steps-low s p h k i l = omega (arith, stepIn-low (s .next-step) (s .stored) (λ e m. omega (arith, p .froms e m)) k i)
 
@@ -326,7 +327,7 @@ delete-low b s p l =
           q .froms;
     }
 
-act-low : (h : Head) (b : ℕ) → h .variable ≤ 1000000 → 2008200 ≤ b → (c : Command) (s : State) → firstNo (questions h (s .nodes) c) ≡ 0 → Sound h s
+act-low : (h : Head) (b : ℕ) → h .variable ≤ mostHead → 2008200 ≤ b → (c : Command) (s : State) → firstNo (questions h (s .nodes) c) ≡ 0 → Sound h s
     → Low h b s → LowIf b (act c s .nodes) (act c s)
 unfolding act
 act-low h b v l (Command.Leaf m) s q p k = by (known (s .nodes) m)
@@ -347,12 +348,12 @@ act-low h b v l (Command.Request n w d) s q p k =
     (requests-right t n w d f) a s (k .low))
 act-low h b v l Command.Close s q p k = subst (λ (x : List Node). LowIf b x (delete s)) (unfold delete in refl) (delete-low b s (k .low))
 
-low-act : (h : Head) (b : ℕ) → h .variable ≤ 1000000 → 2008200 ≤ b → (c : Command) (s : State) → firstNo (questions h (s .nodes) c) ≡ 0 → Sound h s
+low-act : (h : Head) (b : ℕ) → h .variable ≤ mostHead → 2008200 ≤ b → (c : Command) (s : State) → firstNo (questions h (s .nodes) c) ≡ 0 → Sound h s
     → Low h b s → Low h b (act c s)
 low-act h b v l c s q p k =
     record { treed = treed-act h c s q p (k .treed); counted = counted-act h c s q p (k .counted); low = act-low h b v l c s q p k }
 
-pub all-low : {h : Head} {capacity : ℕ} {cs : List Command} {u : State} (b : ℕ) → h .variable ≤ 1000000 → 2008200 ≤ b
+pub all-low : {h : Head} {capacity : ℕ} {cs : List Command} {u : State} (b : ℕ) → h .variable ≤ mostHead → 2008200 ≤ b
     → AllPassed h capacity cs (start h) u → Low h b u
 all-low {h} b v l a = all-keep (Low h b) (low-act h b v l) a (sound-start h) (low-start h b)
 
@@ -367,7 +368,7 @@ most-three : 2097152 ≡ 128 ^ groups
 most-three = refl
 
 -- Every number that an accepted script writes fits.
-pub log-fits : {h : Head} {capacity : ℕ} {cs : List Command} {u : State} → headFits h ≡ true → capacity ≤ 65536 → AllPassed h capacity cs (start h) u
+pub log-fits : {h : Head} {capacity : ℕ} {cs : List Command} {u : State} → headFits h ≡ true → capacity ≤ mostBytes → AllPassed h capacity cs (start h) u
     → Small (flatMap numbers (u .log))
 log-fits {h} {capacity} {cs} {u} e c a =
     let x = head-low h e in
@@ -376,6 +377,6 @@ log-fits {h} {capacity} {cs} {u} e c a =
     log-small (u .log) (omega arith)
     (subst (λ (b : ℕ). AllBelow b (flatMap values (u .log))) most-three (k .low (omega (arith, k .counted .next, two-bytes (u .log))) .all))
 
-pub log-decodes : {h : Head} {capacity : ℕ} {cs : List Command} {u : State} → headFits h ≡ true → capacity ≤ 65536
+pub log-decodes : {h : Head} {capacity : ℕ} {cs : List Command} {u : State} → headFits h ≡ true → capacity ≤ mostBytes
     → AllPassed h capacity cs (start h) u → decodeLog (bytes (u .log)) ≡ some (u .log)
 log-decodes {u = u} e c a = decode-bytes (u .log) (log-fits e c a)

@@ -6,13 +6,14 @@ use mathlib.Core.Option.{some}
 use Prim.Native.Nat.{ℕ, zero, suc, _+_, _≤_}
 use native.Mathlib.Omega.{arith}
 use lib.ListN.{length}
+use Rattle.sizes.specs.Sizes.{mostBytes}
 use Rattle.number.specs.Number.{groups}
 use Rattle.number.proofs.Laws.{readIn-rest}
 use Rattle.record.specs.Record.{numbers, bytes, decodeLog}
 use Rattle.record.proofs.Decode.{Small}
 use Rattle.cert.specs.State.{State, start, Head}
 use Rattle.player.specs.Passes.{AllPassed, all-done, all-more}
-use Rattle.player.specs.Player.{Result, accepted, refused, play, Outcome, outcome, plays, refusedAtHead, mostBytes, headFits, played}
+use Rattle.player.specs.Player.{Result, accepted, refused, play, Outcome, outcome, plays, refusedAtHead, headFits, played}
 use Rattle.player.specs.Script.{Next, command, refuse, end, readCommand, closes, stop, before, Commands, readCommands, script, readScript}
 use Rattle.player.specs.Verdict.{untouched}
 use Rattle.player.specs.declared.Command.{Command}

@@ -5,6 +5,7 @@ use mathlib.Core.Logic.{inl, inr, ⊎-elim}
 use mathlib.Core.List.{List, [], _∷_, List·Memᴰ·not-nil, List·Memᴰ·append-cases, List·Memᴰ·eq-of-singleton}
 use Prim.Native.Nat.{ℕ, _≤_, _<_}
 use native.Mathlib.Omega.{arith}
+use Rattle.sizes.specs.Sizes.{mostHead}
 use Rattle.totdb.specs.Nodes.{Node, leaf, joined, len, known}
 use Rattle.cert.specs.Requests.{Request, Right}
 use Rattle.cert.specs.State.{State, start, define, write, hold, requests, serve, Head}
@@ -75,11 +76,11 @@ all-formed all-done f = f
 all-formed {h} (all-more {c = c} {s = s} q a) f = all-formed a (subst (Formed h) (q .after) (formed-act h c s (q .asked) f))
 
 -- The limits of the head.
-pub head-low : (h : Head) → headFits h ≡ true → (h .variable ≤ 1000000) × (1 ≤ h .step) × (h .step ≤ 1000000)
+pub head-low : (h : Head) → headFits h ≡ true → (h .variable ≤ mostHead) × (1 ≤ h .step) × (h .step ≤ mostHead)
 head-low h e =
     let inside : OutOfRange (h .variable) (h .step) → ⊥ =
     λ o. let k : headFits h ≡ false = answered-no (limits h) o in let z : _≡_ {A = ℕ} 0 1 = cc in omega arith in
-    let i : ¬ (1000000 < h .variable) = λ l. inside (inl l) in
+    let i : ¬ (mostHead < h .variable) = λ l. inside (inl l) in
     let j : ¬ (h .step < 1) = λ l. inside (inr (inl l)) in
-    let k : ¬ (1000000 < h .step) = λ l. inside (inr (inr l)) in
+    let k : ¬ (mostHead < h .step) = λ l. inside (inr (inr l)) in
     (omega (arith, i), omega (arith, j), omega (arith, k))

@@ -6,6 +6,7 @@ use mathlib.Core.List.{List, [], _∷_, _++_, append-assoc, List·Memᴰ, List·
 use Prim.Native.Nat.{ℕ, zero, suc, _+_, _≤_, _<_}
 use native.Mathlib.Omega.{arith}
 use lib.ListN.{length, length-append}
+use Rattle.sizes.specs.Sizes.{mostHead, mostBytes}
 use Rattle.number.specs.Number.{Bytes}
 use Rattle.cert.specs.State.{State, start, Head}
 use Rattle.player.specs.Passes.{AllPassed, all-done}
@@ -54,7 +55,7 @@ head-reads {bs} {h} {cs} w e =
     let r = head-read bs h cs e in
     (r .after-two, cons-reads w (r .one) (one-reads (rest-bytes bs w (r .one)) (r .two)))
 
-at-start : (bs : List ℕ) (capacity : ℕ) (h : Head) (rest : List ℕ) → Bytes bs → length bs ≤ 65536 → capacity ≤ 65536
+at-start : (bs : List ℕ) (capacity : ℕ) (h : Head) (rest : List ℕ) → Bytes bs → length bs ≤ mostBytes → capacity ≤ mostBytes
     → Reads bs (h .variable ∷ h .step ∷ []) rest → headFits h ≡ true → At bs capacity h [] (start h) rest
 at-start bs capacity h rest w short small k fits =
     let a = reads-cons k in
@@ -234,15 +235,15 @@ walk (suc k) l w r = one-step w r (λ c more m q. walk k (omega arith) w q)
 some-verdict : (bs : List ℕ) (capacity : ℕ) → Bytes bs → Some bs capacity
 some-verdict bs capacity w = by (sizes bs capacity)
   where
-    by : {b : Bool} → Answer ((65536 < length bs) ⊎ (65536 < capacity)) b → Some bs capacity
+    by : {b : Bool} → Answer ((mostBytes < length bs) ⊎ (mostBytes < capacity)) b → Some bs capacity
     by (answer-no o) = (1, 0, untouched, no-1 o)
     by (answer-yes q) = at-script (readScript bs) refl
       where
-        short : length bs ≤ 65536
-        short = let k : ¬ (65536 < length bs) = λ l. q (inl l) in omega (arith, k)
+        short : length bs ≤ mostBytes
+        short = let k : ¬ (mostBytes < length bs) = λ l. q (inl l) in omega (arith, k)
 
-        small : capacity ≤ 65536
-        small = let k : ¬ (65536 < capacity) = λ l. q (inr l) in omega (arith, k)
+        small : capacity ≤ mostBytes
+        small = let k : ¬ (mostBytes < capacity) = λ l. q (inr l) in omega (arith, k)
 
         at-script : (r : Script) → readScript bs ≡ r → Some bs capacity
         at-script headless e = (2, 0, untouched, no-2-head short small none)
@@ -260,9 +261,9 @@ some-verdict bs capacity w = by (sizes bs capacity)
             in-range : {b : Bool} → Answer (OutOfRange (h .variable) (h .step)) b → Some bs capacity
             in-range (answer-no o) = (3, 0, untouched, no-3 short small (k .1) o)
             in-range (answer-yes n) =
-                let i : ¬ (1000000 < h .variable) = λ l. n (inl l) in
+                let i : ¬ (mostHead < h .variable) = λ l. n (inl l) in
                 let j : ¬ (h .step < 1) = λ l. n (inr (inl l)) in
-                let m : ¬ (1000000 < h .step) = λ l. n (inr (inr l)) in
+                let m : ¬ (mostHead < h .step) = λ l. n (inr (inr l)) in
                 walk (length (k .0)) (omega arith) w (at-head short small (k .1) (omega (arith, i)) (omega (arith, j)) (omega (arith, m)))
 
 -- ---- the theorems
@@ -323,7 +324,7 @@ accepted-whole e (passed {h = h} {cs = cs} {s = s} r) = (h, cs, s, r)
 
 -- The commands passed.
 pub reached-all : {bs : List ℕ} {capacity : ℕ} {h : Head} {cs : List Command} {s : State} {rest : List ℕ} → Reached bs capacity h cs s rest
-    → (length bs ≤ 65536) × (capacity ≤ 65536) × (headFits h ≡ true) × AllPassed h capacity cs (start h) s
+    → (length bs ≤ mostBytes) × (capacity ≤ mostBytes) × (headFits h ≡ true) × AllPassed h capacity cs (start h) s
 reached-all {h = h} (at-head short small k v one n) =
     (short, small, answered-yes (limits h) (⊎-elim (λ l. omega arith) (⊎-elim (λ l. omega arith) (λ l. omega arith))), all-done)
 reached-all {capacity = capacity} {h = h} (one-more {s = s} {c = c} r unclosed k none) =

@@ -9,6 +9,7 @@ use borrow.Author.Tests.{lt-ltb, le-ltb, le-leb, lt-leb, ne-eqb, leb-true, leb-f
 use lib.Dec.{leb, ltb}
 use lib.ListN.{length, take, replicate, length-append}
 use lib.Seq.{take-append-seam}
+use Rattle.sizes.specs.Sizes.{mostBytes, mostLeaves}
 use Rattle.number.specs.Number.{encode}
 use Rattle.pb.specs.Sum.{variable, neg}
 use Rattle.memo.proofs.Lists.{flatMap-append}
@@ -22,7 +23,7 @@ use Rattle.cert.proofs.Apart.{sized-ok}
 use Rattle.cert.proofs.Serving.{serve-in}
 use Rattle.player.specs.Formed.{Sound}
 use Rattle.player.specs.Passes.{AllPassed, all-done, all-more, Passes}
-use Rattle.player.specs.Player.{firstNo, ask, sideFits, questions, make, delete, act, plays, Outcome, outcome, mostBytes, played}
+use Rattle.player.specs.Player.{firstNo, ask, sideFits, questions, make, delete, act, plays, Outcome, outcome, played}
 use Rattle.player.specs.Script.{Commands}
 use Rattle.player.specs.Verdict.{OffNode, offset-high, limit-high, covering}
 use Rattle.player.specs.declared.Command.{Command}
@@ -117,13 +118,13 @@ module _ (h : Head) (t : List Node) (l r : Side) (free : Free t l r) (unlimited 
 -- ---- the leaves
 
 module _ (h : Head) (t : List Node) (l : ℕ) (low : variable l < h .variable) (new : known t l ≡ false) (new-negated : known t (neg l) ≡ false) where
-  pub leaves-few : leafCount t < 64 → firstNo (questions h t (Command.Leaf l)) ≡ 0
+  pub leaves-few : leafCount t < mostLeaves → firstNo (questions h t (Command.Leaf l)) ≡ 0
   unfolding questions firstNo
-  leaves-few k = rw (lt-ltb (variable l) (h .variable) low, new, new-negated, lt-ltb (leafCount t) 64 k)
+  leaves-few k = rw (lt-ltb (variable l) (h .variable) low, new, new-negated, lt-ltb (leafCount t) mostLeaves k)
 
-  pub leaves-full : 64 ≤ leafCount t → firstNo (questions h t (Command.Leaf l)) ≡ 7
+  pub leaves-full : mostLeaves ≤ leafCount t → firstNo (questions h t (Command.Leaf l)) ≡ 7
   unfolding questions firstNo
-  leaves-full k = rw (lt-ltb (variable l) (h .variable) low, new, new-negated, le-ltb (leafCount t) 64 k)
+  leaves-full k = rw (lt-ltb (variable l) (h .variable) low, new, new-negated, le-ltb (leafCount t) mostLeaves k)
 
 -- ---- the log's length: a command never shortens the log
 

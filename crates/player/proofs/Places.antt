@@ -12,11 +12,12 @@ use Rattle.number.specs.declared.Reading.the-variants.{Number, Bad}
 use Rattle.number.proofs.Places.{readFrom-number, readFrom-bad}
 use Rattle.totdb.specs.declared.Side.{Side}
 use Rattle.player.specs.Script.{Next, command, refuse, get, getSide, arguments, readCommand, readCommands, Script, script, headless, readScript}
-use Rattle.player.specs.Places.{placed, argumentsAt, nextAt, withNumber, sideAt, headAt}
+use Rattle.player.specs.Places.{placed, argumentsAt, nextAt, withNumber, tripleAt, withTriple, sideAt, headAt}
 use Rattle.player.specs.declared.Command.{Command}
 use Rattle.player.specs.declared.CommandReading.{CommandReading}
 use Rattle.player.specs.declared.HeadReading.{HeadReading}
 use Rattle.player.specs.declared.SideReading.{SideReading}
+use Rattle.player.specs.declared.TripleReading.{TripleReading}
 
 -- A command after a side.
 abbrev pub withSide : SideReading → (Side → ℕ → CommandReading) → CommandReading
@@ -52,13 +53,25 @@ module _ (s : List ℕ) where
   unfolding placed
   placed-command c e h = rw (length-drop e s) (ap (CommandReading.Command c) (omega arith))
 
-  -- The same with a side.
+  -- The same with three numbers, and with a side.
+  placed-triple : (at : ℕ) (f : ℕ → ℕ → ℕ → List ℕ → Next) (g : ℕ → ℕ → ℕ → ℕ → CommandReading)
+      → ((x y z e : ℕ) → e ≤ length s → placed s (f x y z (drop e s)) ≡ g x y z e)
+      → placed s (get (drop at s) (λ x p. get p (λ y q. get q (λ z r. f x y z r)))) ≡ withTriple (CommandReading.Refuse 2) (tripleAt s at) g
+  placed-triple at f g h =
+      placed-get at _ _ (λ x a _. placed-get a _ _ (λ y b _. placed-get b _ _ (λ z e. h x y z e)))
+      ∙ sym (with-map (λ r. withTriple (CommandReading.Refuse 2) r g) _ _ _ (readAt s at) (λ x a.
+      with-map (λ r. withTriple (CommandReading.Refuse 2) r g) _ _ _ (readAt s a) (λ y b.
+      with-map (λ r. withTriple (CommandReading.Refuse 2) r g) _ _ _ (readAt s b) (λ z e. refl))))
+
   placed-side : (at : ℕ) (f : Side → List ℕ → Next) (g : Side → ℕ → CommandReading)
       → ((d : Side) (e : ℕ) → e ≤ length s → placed s (f d (drop e s)) ≡ g d e) → placed s (getSide (drop at s) f) ≡ withSide (sideAt s at) g
-  placed-side at f g h =
-      placed-get at _ _ (λ n a _. placed-get a _ _ (λ o b _. placed-get b _ _ (λ k e. h _ e)))
-      ∙ sym (with-map (λ r. withSide r g) _ _ _ (readAt s at) (λ n a.
-      with-map (λ r. withSide r g) _ _ _ (readAt s a) (λ o b. with-map (λ r. withSide r g) _ _ _ (readAt s b) (λ k e. refl))))
+  placed-side at f g h = placed-triple at _ _ (λ x y z e. h _ e) ∙ by (tripleAt s at)
+    where
+      by : (r : TripleReading)
+          → withTriple (CommandReading.Refuse 2) r (λ n o k e. g (record { node = n; offset = o; limit = k }) e)
+          ≡ withSide (withTriple SideReading.Bad r (λ n o k e. SideReading.Side (record { node = n; offset = o; limit = k }) e)) g
+      by (TripleReading.Triple x y z e) = refl
+      by TripleReading.Bad = refl
 
   module _ (at : ℕ) where
     pub leaf-at : argumentsAt 1 s at ≡ withNumber (CommandReading.Refuse 2) (readAt s at) (λ l e. CommandReading.Command (Command.Leaf l) e)
@@ -72,10 +85,9 @@ module _ (s : List ℕ) where
         placed-side a (λ r. command (Command.Join l r)) _ (λ r. placed-command (Command.Join l r)))
 
     pub request-at : argumentsAt 3 s at
-        ≡ withNumber (CommandReading.Refuse 2) (readAt s at) (λ n a. withNumber (CommandReading.Refuse 2) (readAt s a) (λ v b.
-        withNumber (CommandReading.Refuse 2) (readAt s b) (λ d e. CommandReading.Command (Command.Request n v d) e)))
+        ≡ withTriple (CommandReading.Refuse 2) (tripleAt s at) (λ n v d e. CommandReading.Command (Command.Request n v d) e)
     unfolding arguments
-    request-at = placed-get at _ _ (λ n a _. placed-get a _ _ (λ v b _. placed-get b _ _ (λ d. placed-command (Command.Request n v d))))
+    request-at = placed-triple at _ _ (λ n v d. placed-command (Command.Request n v d))
 
     pub close-at : at ≤ length s → argumentsAt 4 s at ≡ CommandReading.Command Command.Close at
     unfolding arguments

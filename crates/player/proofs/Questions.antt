@@ -9,13 +9,14 @@ use native.Mathlib.Omega.{arith}
 use borrow.Author.Tests.{not-true, ltb-true, ltb-false, leb-true, leb-false, eqb-true, eqb-false}
 use lib.Dec.{leb, ltb, eqb}
 use lib.ListN.{length}
+use Rattle.sizes.specs.Sizes.{mostHead, mostBytes, mostLeaves}
 use Rattle.pb.specs.Sum.{variable, neg}
 use Rattle.memo.proofs.Lists.{mem-flatMap, of-flatMap}
 use Rattle.record.specs.Record.{bytes}
 use Rattle.totdb.specs.Nodes.{Node, leaf, join, at, len, any, leafOf, isOver, known, taken, leafCount}
 use Rattle.totdb.specs.declared.Side.{Side}
 use Rattle.cert.specs.State.{State, Head}
-use Rattle.player.specs.Player.{mostBytes, mostHead, headFits, Question, ask, firstNo, sideFits, questions, act, accepted, refused, play}
+use Rattle.player.specs.Player.{headFits, Question, ask, firstNo, sideFits, questions, act, accepted, refused, play}
 use Rattle.player.specs.Verdict.{ownLiteral, leafLiterals, sideNodes, joinedNodes, OffNode, offset-high, limit-high, covering, No, no-6, no-7, no-8-join, no-8-request, no-9, no-10, no-11, no-12, no-14, order, First, first-here, first-later}
 use Rattle.player.specs.declared.Command.{Command}
 use Rattle.player.specs.declared.Command.the-variants.{Leaf, Join, Request as Requested, Close}
@@ -105,7 +106,7 @@ answer-among : (f : Node → Bool) (g : Node → List ℕ) (n : ℕ) → ((a : N
     → Answer (List·Memᴰ n (flatMap g t)) (notb (any f t))
 answer-among f g n h t = answer-map (λ k. mem-flatMap g (k .1) (k .2)) (of-flatMap g t) (answer-any f h t)
 
--- ---- questions 1 and 3
+-- ---- questions 1 and 3: document 01's numerals, and the names of `sizes`
 
 bytes-answer : (n : ℕ) → Answer (65536 < n) (leb n mostBytes)
 bytes-answer n = answer-map {P = mostBytes < n} (λ l. omega arith) (λ l. omega arith) (answer-most n mostBytes)
@@ -113,14 +114,14 @@ bytes-answer n = answer-map {P = mostBytes < n} (λ l. omega arith) (λ l. omega
 head-answer : (n : ℕ) → Answer (1000000 < n) (leb n mostHead)
 head-answer n = answer-map {P = mostHead < n} (λ l. omega arith) (λ l. omega arith) (answer-most n mostHead)
 
-pub sizes : (bs : List ℕ) (capacity : ℕ) → Answer ((65536 < length bs) ⊎ (65536 < capacity)) (leb (length bs) mostBytes && leb capacity mostBytes)
+pub sizes : (bs : List ℕ) (capacity : ℕ) → Answer ((mostBytes < length bs) ⊎ (mostBytes < capacity)) (leb (length bs) mostBytes && leb capacity mostBytes)
 sizes bs capacity = answer-both (bytes-answer (length bs)) (bytes-answer capacity)
 
-pub sized : (bs : List ℕ) (capacity : ℕ) → length bs ≤ 65536 → capacity ≤ 65536 → (leb (length bs) mostBytes && leb capacity mostBytes) ≡ true
+pub sized : (bs : List ℕ) (capacity : ℕ) → length bs ≤ mostBytes → capacity ≤ mostBytes → (leb (length bs) mostBytes && leb capacity mostBytes) ≡ true
 sized bs capacity short small = answered-yes (sizes bs capacity) (⊎-elim (λ l. omega arith) (λ l. omega arith))
 
 abbrev pub OutOfRange : ℕ → ℕ → Type 0
-OutOfRange v n = (1000000 < v) ⊎ ((n < 1) ⊎ (1000000 < n))
+OutOfRange v n = (mostHead < v) ⊎ ((n < 1) ⊎ (mostHead < n))
 
 pub limits : (h : Head) → Answer (OutOfRange (h .variable) (h .step)) (headFits h)
 unfolding headFits
@@ -155,8 +156,10 @@ leaves-counted [] = refl
 leaves-counted (leaf l ∷ t) = ap suc (leaves-counted t)
 leaves-counted (join ls o l r ∷ t) = leaves-counted t
 
-count-is : (t : List Node) (n : ℕ) → Answer (n ≤ length (leafLiterals t)) (ltb (leafCount t) n)
-count-is t n = rw (leaves-counted t) (answer-below (leafCount t) n)
+leaves-answer : (t : List Node) → Answer (64 ≤ length (leafLiterals t)) (ltb (leafCount t) mostLeaves)
+leaves-answer t =
+    answer-map {P = mostLeaves ≤ leafCount t} (λ l. omega (arith, leaves-counted t)) (λ l. omega (arith, leaves-counted t))
+    (answer-below (leafCount t) mostLeaves)
 
 pub side-answer : (t : List Node) (s : Side) → Answer (OffNode t s) (sideFits t s)
 unfolding sideFits
@@ -293,7 +296,7 @@ module _ (h : Head) (capacity : ℕ) (s : State) where
   is-6 (no-6 p) = p
 
   is-7 : {l : ℕ} → No h capacity s (Leaf l) 7
-      → (List·Memᴰ l (leafLiterals t) → ⊥) × (List·Memᴰ (neg l) (leafLiterals t) ⊎ (64 ≤ length (leafLiterals t)))
+      → (List·Memᴰ l (leafLiterals t) → ⊥) × (List·Memᴰ (neg l) (leafLiterals t) ⊎ (mostLeaves ≤ length (leafLiterals t)))
   is-7 (no-7 p q) = (p, q)
 
   is-8-join : {l r : Side} → No h capacity s (Join l r) 8 → (length t ≤ l .node) ⊎ (length t ≤ r .node)
@@ -347,7 +350,7 @@ module _ (h : Head) (capacity : ℕ) (s : State) where
       (put 7 (omega arith)
       (answer-map (λ k. no-7 (k .0) (k .1)) is-7
       (answer-unless (known t l) (known-is t l)
-      (answer-both (known-is t (neg l)) (count-is t 64))))
+      (answer-both (known-is t (neg l)) (leaves-answer t))))
       (not-put 8 (leaf-skips 8 (omega arith) (omega arith)) (not-put 9 (leaf-skips 9 (omega arith) (omega arith))
       (not-put 10 (leaf-skips 10 (omega arith) (omega arith)) (not-put 11 (leaf-skips 11 (omega arith) (omega arith))
       (not-put 12 (leaf-skips 12 (omega arith) (omega arith)) all-answered))))))
@@ -461,10 +464,10 @@ module _ (h : Head) (t : List Node) (l : ℕ) (q : firstNo (questions h t (Leaf 
     unfolding bare
     leaf-apart = not-true (known t (neg l)) (answered-yes (known-is t (neg l)) (λ m. leaf-none 7 (omega arith) (no-7 new-literal (inl m))))
 
-    pub leaf-few : leafCount t < 64
+    pub leaf-few : leafCount t < mostLeaves
     unfolding bare
     leaf-few =
-        let k : ¬ (64 ≤ length (leafLiterals t)) = λ p. leaf-none 7 (omega arith) (no-7 new-literal (inr p)) in
+        let k : ¬ (mostLeaves ≤ length (leafLiterals t)) = λ p. leaf-none 7 (omega arith) (no-7 new-literal (inr p)) in
         omega (arith, k, leaves-counted t)
 
 module _ (h : Head) (t : List Node) (l r : Side) (q : firstNo (questions h t (Join l r)) ≡ 0) where

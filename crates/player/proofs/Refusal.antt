@@ -9,11 +9,12 @@ use borrow.Author.Tests.{le-leb, lt-leb}
 use lib.Dec.{leb}
 use lib.ListN.{length, replicate, length-append, length-replicate}
 use lib.Seq.{drop-append-seam}
+use Rattle.sizes.specs.Sizes.{mostBytes}
 use Rattle.number.specs.Number.{number, read, Front, bad}
 use Rattle.record.specs.Record.{bytes}
 use Rattle.cert.specs.State.{State, start, Head}
 use Rattle.player.specs.Passes.{Passed}
-use Rattle.player.specs.Player.{accepted, refused, firstNo, questions, delete, act, fitted, play, Result, plays, outcome, ended, refusedAtHead, headFits, playScript, mostBytes, played, Padded}
+use Rattle.player.specs.Player.{accepted, refused, firstNo, questions, delete, act, fitted, play, Result, plays, outcome, ended, refusedAtHead, headFits, playScript, played, Padded}
 use Rattle.player.specs.Script.{Commands, script, headless, readScript, Script, readCommands}
 use Rattle.player.specs.Verdict.{untouched}
 use Rattle.player.specs.declared.Command.{Command}

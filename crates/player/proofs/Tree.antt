@@ -4,12 +4,13 @@ use mathlib.Core.Path.{_≡_, refl, sym, _∙_, ap, subst}
 use mathlib.Core.Bool.{Bool, true, false, _||_}
 use mathlib.Core.Logic.{_≢_}
 use mathlib.Core.List.{List, [], _∷_, _++_}
-use Prim.Native.Nat.{ℕ, zero, suc, _+_, _≤_, _<_}
+use Prim.Native.Nat.{ℕ, zero, suc, _+_, _*_, _≤_, _<_}
 use native.Mathlib.Decide.{ℕ-discrete}
 use native.Mathlib.Omega.{arith}
 use borrow.Author.Tests.{eq-eqb, ne-eqb}
 use lib.Dec.{eqb}
 use lib.ListN.{length, length-append}
+use Rattle.sizes.specs.Sizes.{mostLeaves, width}
 use Rattle.pb.specs.Sum.{variable}
 use Rattle.totdb.specs.Nodes.{Node, taken, at, any, isOver, join, leaf, leafCount, len, known, leaves, joined, sideLeaves, sideLen}
 use Rattle.totdb.specs.declared.Side.{Side}
@@ -178,7 +179,7 @@ treed-leaf h l s q e p k =
     record {
       few = omega (arith, leafCount-leaf t l);
       short = omega (arith, k .short, leafCount-leaf t l, free-leaf len t l ok);
-      each = λ n i. at-snoc t (leaf l) (λ m b. len b ≤ 64) (k .each) (omega arith) n i;
+      each = λ n i. at-snoc t (leaf l) (λ m b. len b ≤ width) (k .each) (omega arith) n i;
       low = omega (arith, k .low, leafCount-leaf t l, free-leaf one t l ok);
       paired = omega (arith, k .paired, leafCount-leaf t l, free-leaf one t l ok, length-snoc t (leaf l));
     }
@@ -204,7 +205,7 @@ treed-join h l r s f p k =
     record {
       few = omega (arith, k .few, leafCount-join t ls o l r);
       short = omega (arith, k .short, leafCount-join t ls o l r, e, long, f .left-in, f .right-in);
-      each = λ n i. at-snoc t (join ls o l r) (λ m b. len b ≤ 64) (k .each)
+      each = λ n i. at-snoc t (join ls o l r) (λ m b. len b ≤ width) (k .each)
           (omega (arith, k .few, k .short, e, z, long, f .left-in, f .right-in)) n i;
       low = omega (arith, k .low, k .few, k .short, leafCount-join t ls o l r, e, g, z, long, f .left-in, f .right-in, ones);
       paired = omega (arith, k .paired, leafCount-join t ls o l r, g, ones, length-snoc t (join ls o l r));
@@ -232,5 +233,5 @@ pub few-variables : {h : Head} {s : State} → Treed h s → s .next-variable �
 few-variables k = omega (arith, k .low, k .few)
 
 -- There are twice as many nodes as leaves at most.
-pub few-nodes : {h : Head} {s : State} → Treed h s → length (s .nodes) ≤ 128
+pub few-nodes : {h : Head} {s : State} → Treed h s → length (s .nodes) ≤ 2 * mostLeaves
 few-nodes k = omega (arith, k .paired, k .few)

@@ -6,6 +6,7 @@ use Prim.Native.Nat.{ℕ, zero, suc, _+_, _-_, _≤_, _<_, _^_}
 use native.Mathlib.Decide.{decLt}
 use native.Mathlib.Omega.{arith}
 use lib.ListN.{length, length-append}
+use Rattle.sizes.specs.Sizes.{mostBytes}
 use Rattle.number.specs.Number.{groups}
 use Rattle.pb.specs.Rules.{Token, step, literal, add, divide, saturate}
 use Rattle.pb.specs.Sum.{Term, _·_, neg, units}
@@ -103,7 +104,7 @@ records-below b (r ∷ rs) k l p =
     below-append b (numbers r) (flatMap numbers rs) (record-below b r k (omega (arith, length-append (numbers r) (flatMap numbers rs))) (q .0))
     (records-below b rs k (omega (arith, length-append (numbers r) (flatMap numbers rs))) (q .1))
 
-pub log-small : (rs : List Record) → length (bytes rs) ≤ 65536 → AllBelow (128 ^ groups) (flatMap values rs) → Small (flatMap numbers rs)
+pub log-small : (rs : List Record) → length (bytes rs) ≤ mostBytes → AllBelow (128 ^ groups) (flatMap values rs) → Small (flatMap numbers rs)
 unfolding bytes
 log-small rs l p = below-small (flatMap numbers rs)
     (records-below (128 ^ groups) rs (omega arith) (omega (arith, numbers-bytes (flatMap numbers rs))) p)

@@ -4,6 +4,7 @@ use mathlib.Core.Bool.{true, false}
 use mathlib.Core.List.{List, List·Memᴰ}
 use Prim.Native.Nat.{ℕ, zero, suc, _+_, _*_, _≤_, _<_}
 use lib.ListN.{length}
+use Rattle.sizes.specs.Sizes.{mostLeaves, width}
 use Rattle.totdb.specs.Nodes.{Node, join, at, len, leafCount, taken}
 use Rattle.totdb.specs.declared.Side.{Side}
 use Rattle.cert.specs.Counted.{Counted}
@@ -37,10 +38,10 @@ one a = 1
 
 -- Nodes are few and short, and variables stay low.
 pub record Treed (h : Head) (s : State) : Type 0 where
-  pub few : leafCount (s .nodes) ≤ 64
+  pub few : leafCount (s .nodes) ≤ mostLeaves
   pub short : free len (s .nodes) ≤ leafCount (s .nodes)
-  pub each : (n : ℕ) → n < length (s .nodes) → len (at (s .nodes) n) ≤ 64
-  pub low : s .next-variable + 64 * free one (s .nodes) ≤ h .variable + 64 * leafCount (s .nodes)
+  pub each : (n : ℕ) → n < length (s .nodes) → len (at (s .nodes) n) ≤ width
+  pub low : s .next-variable + width * free one (s .nodes) ≤ h .variable + width * leafCount (s .nodes)
   pub paired : length (s .nodes) + free one (s .nodes) ≡ 2 * leafCount (s .nodes)
 
 -- Every request that is held asks for a value of its node.

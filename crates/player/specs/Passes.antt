@@ -4,9 +4,10 @@ use mathlib.Core.Bool.{true}
 use mathlib.Core.List.{List, [], _∷_}
 use Prim.Native.Nat.{ℕ, _≤_}
 use lib.ListN.{length}
+use Rattle.sizes.specs.Sizes.{mostBytes}
 use Rattle.record.specs.Record.{bytes}
 use Rattle.cert.specs.State.{State, start, Head}
-use Rattle.player.specs.Player.{firstNo, questions, act, headFits, mostBytes}
+use Rattle.player.specs.Player.{firstNo, questions, act, headFits}
 use Rattle.player.specs.Script.{Commands, script, readScript}
 use Rattle.player.specs.declared.Command.{Command}
 

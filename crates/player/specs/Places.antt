@@ -10,6 +10,7 @@ use Rattle.player.specs.Script.{Next, command, refuse, end, arguments, r
 use Rattle.player.specs.declared.CommandReading.{CommandReading}
 use Rattle.player.specs.declared.HeadReading.{HeadReading}
 use Rattle.player.specs.declared.SideReading.{SideReading}
+use Rattle.player.specs.declared.TripleReading.{TripleReading}
 
 -- ---- a command
 
@@ -26,19 +27,28 @@ argumentsAt c s at = placed s (arguments c (drop at s))
 abbrev pub nextAt : Bool → List ℕ → ℕ → CommandReading
 nextAt closed s at = placed s (readCommand closed (drop at s))
 
--- ---- a side, and the head
+-- ---- three numbers, a side, and the head
 
 -- f of the number that is read and the place after it; a where there is none.
 abbrev pub withNumber : {A : Type 0} → A → Reading → (ℕ → ℕ → A) → A
 withNumber a (Number x e) f = f x e
 withNumber a Bad f = a
 
+abbrev pub tripleAt : List ℕ → ℕ → TripleReading
+tripleAt s at =
+    withNumber TripleReading.Bad (readAt s at) (λ x a.
+    withNumber TripleReading.Bad (readAt s a) (λ y b.
+    withNumber TripleReading.Bad (readAt s b) (λ z e.
+    TripleReading.Triple x y z e)))
+
+-- The same with three numbers.
+abbrev pub withTriple : {A : Type 0} → A → TripleReading → (ℕ → ℕ → ℕ → ℕ → A) → A
+withTriple a (TripleReading.Triple x y z e) f = f x y z e
+withTriple a TripleReading.Bad f = a
+
 abbrev pub sideAt : List ℕ → ℕ → SideReading
 sideAt s at =
-    withNumber SideReading.Bad (readAt s at) (λ n a.
-    withNumber SideReading.Bad (readAt s a) (λ f b.
-    withNumber SideReading.Bad (readAt s b) (λ k e.
-    SideReading.Side (record { node = n; offset = f; limit = k }) e)))
+    withTriple SideReading.Bad (tripleAt s at) (λ n f k e. SideReading.Side (record { node = n; offset = f; limit = k }) e)
 
 abbrev pub headAt : List ℕ → HeadReading
 headAt s = withNumber HeadReading.Bad (readAt s 0) (λ v a. withNumber HeadReading.Bad (readAt s a) (λ n e. HeadReading.Head v n e))

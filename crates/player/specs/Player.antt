@@ -5,6 +5,8 @@ use mathlib.Core.List.{List, [], _∷_, _++_}
 use Prim.Native.Nat.{ℕ, zero, suc, _+_, _-_, _≤_}
 use lib.Dec.{leb, ltb, eqb}
 use lib.ListN.{length, drop, replicate}
+use Rattle.sizes.specs.Sizes.{mostHead, mostLeaves}
+pub use Rattle.sizes.specs.Sizes.{mostBytes}
 use Rattle.number.specs.Number.{readRefusal}
 use Rattle.number.specs.declared.Reading.the-variants.{Bad}
 use Rattle.pb.specs.Sum.{variable, neg}
@@ -40,7 +42,7 @@ unfoldable pub questions : Head → List Node → Command → List Question
 unfolding variable neg known taken leafCount at len sideFits
 questions h t (Command.Leaf l) =
     ask 6 (ltb (variable l) (h .variable))
-    ∷ ask 7 (known t l || (notb (known t (neg l)) && ltb (leafCount t) 64))
+    ∷ ask 7 (known t l || (notb (known t (neg l)) && ltb (leafCount t) mostLeaves))
     ∷ []
 questions h t (Command.Join l r) =
     ask 8 (ltb (l .node) (length t) && ltb (r .node) (length t))
@@ -148,13 +150,6 @@ plays h capacity ending (c ∷ cs) p s =
 unfoldable pub refusedAtHead : ℕ → ℕ → Outcome
 unfolding outcome start
 refusedAtHead capacity n = outcome capacity n 0 (start (record { variable = 0; step = 0 }))
-
--- The most bytes of a script or a log, and the most that a number of the head is.
-abbrev pub mostBytes : ℕ
-mostBytes = 65536
-
-abbrev pub mostHead : ℕ
-mostHead = 1000000
 
 unfoldable pub headFits : Head → Bool
 headFits h = leb (h .variable) mostHead && leb 1 (h .step) && leb (h .step) mostHead

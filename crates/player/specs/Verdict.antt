@@ -1,4 +1,6 @@
 -- Document 01's questions as propositions, and the number and place that a script comes to by them, apart from the player's tests.
+-- The limits stand here as document 01 writes them, and not by the names of `sizes`: a limit there that is not the document's is refused
+-- where the player's tests are proved to answer these questions.
 use mathlib.Core.Path.{_≡_}
 use mathlib.Core.Logic.{_⊎_, _≢_}
 use mathlib.Core.List.{List, [], _∷_, _++_, flatMap, List·Memᴰ}

@@ -5,7 +5,7 @@ use totdb::Side;
 ghost use mathlib.Core.Path.{_≡_};
 ghost use Prim.Native.Nat.{_≤_};
 ghost use lib.ListN.{length};
-ghost use Rattle.player.specs.Places.{sideAt, argumentsAt, nextAt, headAt};
+ghost use Rattle.player.specs.Places.{tripleAt, sideAt, argumentsAt, nextAt, headAt};
 
 // A leaf with its literal; a join of two sides; a request of a node's value in a direction (1 if,
 // 2 only-if, 3 both); a close.
@@ -24,6 +24,12 @@ pub enum CommandReading {
     End,
 }
 
+// Three numbers in a row, with the place after them.
+pub enum TripleReading {
+    Triple(u32, u32, u32, usize),
+    Bad,
+}
+
 pub enum SideReading {
     Side(Side, usize),
     Bad,
@@ -35,16 +41,25 @@ pub enum HeadReading {
     Bad,
 }
 
+fn triple(script: &[u8], at: usize) -> TripleReading
+    ensures { λ r. ⌜ r ≡ tripleAt (now (script .entry)) at ⌝ }
+{
+    let Reading::Number(a, after_a) = number::read(script, at) else {
+        return TripleReading::Bad;
+    };
+    let Reading::Number(b, after_b) = number::read(script, after_a) else {
+        return TripleReading::Bad;
+    };
+    let Reading::Number(c, end) = number::read(script, after_b) else {
+        return TripleReading::Bad;
+    };
+    TripleReading::Triple(a, b, c, end)
+}
+
 fn side(script: &[u8], at: usize) -> SideReading
     ensures { λ r. ⌜ r ≡ sideAt (now (script .entry)) at ⌝ }
 {
-    let Reading::Number(node, after_node) = number::read(script, at) else {
-        return SideReading::Bad;
-    };
-    let Reading::Number(offset, after_offset) = number::read(script, after_node) else {
-        return SideReading::Bad;
-    };
-    let Reading::Number(limit, end) = number::read(script, after_offset) else {
+    let TripleReading::Triple(node, offset, limit, end) = triple(script, at) else {
         return SideReading::Bad;
     };
     let s = Side {
@@ -79,13 +94,7 @@ fn join(script: &[u8], at: usize) -> CommandReading
 fn request(script: &[u8], at: usize) -> CommandReading
     ensures { λ r. ⌜ r ≡ argumentsAt 3 (now (script .entry)) at ⌝ }
 {
-    let Reading::Number(node, after_node) = number::read(script, at) else {
-        return CommandReading::Refuse(2);
-    };
-    let Reading::Number(value, after_value) = number::read(script, after_node) else {
-        return CommandReading::Refuse(2);
-    };
-    let Reading::Number(direction, end) = number::read(script, after_value) else {
+    let TripleReading::Triple(node, value, direction, end) = triple(script, at) else {
         return CommandReading::Refuse(2);
     };
     CommandReading::Command(

@@ -9,7 +9,9 @@ use compare::meets;
 use input::AnswerReading;
 use number::Reading;
 ghost use mathlib.Core.Path.{_≡_};
+ghost use Prim.Native.Nat.{_+_};
 ghost use lib.ListN.{length};
+ghost use Rattle.sizes.specs.Sizes.{mostBytes};
 
 // So many cases that are not met are shown.
 const SHOWN: u32 = 5;
@@ -20,12 +22,14 @@ enum Played {
     Bad,
 }
 
-// Room for a script or a log, a little longer than the library takes. It is not zero, so that the zeros
-// after a log have to be written.
-fn room() -> [u8; 65792]
-    ensures { λ r. ⌜ 65792 ≡ length r ⌝ }
+// Room for a script or a log, a little longer than the library takes.
+const ROOM: usize = sizes::MOST_BYTES + 256;
+
+// It is not zero, so that the zeros after a log have to be written.
+fn room() -> [u8; ROOM]
+    ensures { λ r. ⌜ mostBytes + 256 ≡ length r ⌝ }
 {
-    [255; 65792]
+    [255; ROOM]
 }
 
 // Reads the next case and plays it.

@@ -7,7 +7,7 @@ use native.Mathlib.Omega.{arith}
 use borrow.Author.Tests.{eqb-true, eqb-false}
 use lib.Dec.{eqb}
 use lib.ListN.{length, getD}
-use Rattle.sizes.specs.Sizes.{width, row, kindAt, storeAt}
+use Rattle.sizes.specs.Sizes.{width, row, kindColumn, kindAt, storeAt}
 use Rattle.totdb.specs.Nodes.{Node, leaf, join, at, len}
 use Rattle.totdb.specs.declared.Side.{Side}
 use Rattle.cert.specs.Definitions.{Direction}
@@ -25,8 +25,8 @@ use Rattle.request.proofs.Flags.{Flagged}
 
 -- A leaf, or a join, by the test of the code.
 module _ {ns : List ℕ} {t : List Node} (tb : Table ns t) (n : ℕ) (h : n < length t) where
-  kind-is : getD ns (kindAt n) 0 ≡ getD (rowOf ns n) 2 0
-  kind-is = in-row ns n 2 (omega arith)
+  kind-is : getD ns (kindAt n) 0 ≡ getD (rowOf ns n) kindColumn 0
+  kind-is = in-row ns n kindColumn (omega arith)
 
   pub kind-leaf : eqb (getD ns (kindAt n) 0) 0 ≡ true → (a : ℕ) × (at t n ≡ leaf a)
   unfolding KindOf

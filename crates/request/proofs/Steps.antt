@@ -3,8 +3,9 @@ use mathlib.Core.Path.{_≡_, refl, sym, _∙_}
 use mathlib.Core.Bool.{Bool, true, false}
 use mathlib.Core.Logic.{⊎-elim}
 use mathlib.Core.List.{List, [], _∷_, append-nil, flatMap, List·Memᴰ}
-use Prim.Native.Nat.{ℕ, zero, suc, _+_, _-_, _≤_, min, max}
+use Prim.Native.Nat.{ℕ, zero, suc, _+_, _-_, _≤_, _<_, min, max}
 use native.Mathlib.Decide.{decLe}
+use native.Mathlib.Numerals.{unary-clauses}
 use native.Mathlib.Omega.{arith}
 use lib.Dec.{eqb}
 use lib.ListN.{length, getD, set}
@@ -219,6 +220,20 @@ module _ {ns : List ℕ} where
       does = λ c t s y w x. rw (named-range d v (z .len) q low high (w .above) f h, ← e) (a .does c t s y w x);
       onward = a .onward;
     }
+
+    -- A side of a leaf.
+    module _ {m : Memory} (g : eqb (getD ns (kindAt (z .side .node)) 0) 0 ≡ true) where
+      lower-leaf : (low k : ℕ) → 1 ≤ low → ((i : ℕ) → i < k → low + i ≤ z .len) → Lower ns z q v d low (low + k) m m
+      lower-leaf low zero h a = simp unary-clauses (side-none low)
+      lower-leaf low (suc k) h a =
+          let e : low + suc k ≡ low + k + 1 = omega arith in
+          rw e (side-more low (low + k) (omega arith) h (a k (omega arith)) (lower-leaf low k h (λ i l. a i (omega arith))) (node-leaf d g))
+
+      pub side-leaf : Side-asks ns z q v d m m
+      side-leaf =
+          let low = max 1 (v - q) in
+          let high = min v (z .len) in
+          side-done low high (low + (suc high - low)) refl refl (omega arith) (lower-leaf low (suc high - low) (omega arith) (λ i l. omega arith))
 
   -- ---- both, each_direction, request
 

@@ -4,7 +4,7 @@ use mathlib.Core.List.{List}
 use Prim.Native.Nat.{ℕ, _+_, _≤_, _<_, _%_}
 use lib.Dec.{eqb, leb}
 use lib.ListN.{length}
-use Rattle.sizes.specs.Sizes.{mostNodes, width, storeAt}
+use Rattle.sizes.specs.Sizes.{mostNodes, width, storeRow, storeAt}
 use Rattle.memo.specs.Visit.{ask, each}
 use Rattle.totdb.specs.Nodes.{Node, at, len}
 use Rattle.cert.specs.Definitions.{if, only-if}
@@ -58,5 +58,5 @@ pub record SideAsked (t : List Node) (s : Shown) (q v : ℕ) : Type 0 where
 -- A value with a place in the store.
 pub record HeldRoom (store : List ℕ) (n v : ℕ) : Type 0 where
   pub node : n < mostNodes
-  pub row : storeAt n + 134 ≤ length store
+  pub row : storeAt n + storeRow ≤ length store
   pub value : v ≤ width

@@ -131,7 +131,7 @@ fn node_request(
     write_request(nodes, store, log, b, x, value, only_if)
 }
 
-// The literals that a value names on a side, one request each; the other side has q.
+// The literals that a value names on a side, one request each; the other side has q. A leaf has none.
 fn side_request(
     nodes: &[u32],
     store: &mut [u32],
@@ -148,6 +148,9 @@ fn side_request(
         (memory (now (store .entry)) (now (log .entry)) o) (memory (now (store .exit)) (now (log .exit)) r) ⌝ }
 {
     let side = s.side;
+    if is_leaf(nodes, side.node) {
+        return o;
+    }
     let low = lowest(value, q);
     let high = highest(value, s.len);
     let mut p = o;

@@ -9,7 +9,7 @@ use borrow.Author.Tests.{eq-eqb, ne-eqb}
 use lib.Dec.{eqb}
 use lib.ListN.{length, getD, set, take, length-take, length-drop}
 use lib.Seq.{getD-set-same, getD-set-other, drop-set-lt}
-use Rattle.sizes.specs.Sizes.{mostLeaves, mostNodes, width, rowAt, leftAt, rightAt, leftWindow, rightWindow}
+use Rattle.sizes.specs.Sizes.{mostLeaves, mostNodes, width, rowAt, lengthColumn, firstColumn, kindColumn, takenColumn, leftColumn, rightColumn, listColumn, sideLenColumn, sideWindowColumn, leftAt, rightAt, leftWindow, rightWindow}
 use Rattle.totdb.specs.Nodes.{Node, leaf, join, at, len, output, leafCount, any, isOver, taken}
 use Rattle.totdb.specs.declared.Side.{Side}
 use Rattle.cert.specs.Sized.{Sized, Fit}
@@ -143,35 +143,35 @@ taken-last t x sized =
 -- ---- the rows of the nodes before
 
 module _ (t : List Node) (x : Node) (b : Bounded t) (b′ : Bounded (t ++ (x ∷ []))) where
-  -- A row in which the number at 3 is set.
+  -- A row in which the number that says whether the node stands under a join is set.
   module _ (r : List ℕ) (y : ℕ) where
-    kept : (j : ℕ) → j ≢ 3 → getD (set r 3 y) j 0 ≡ getD r j 0
-    kept j h = getD-set-other r 3 j y 0 h
+    kept : (j : ℕ) → j ≢ takenColumn → getD (set r takenColumn y) j 0 ≡ getD r j 0
+    kept j h = getD-set-other r takenColumn j y 0 h
 
-    side-kept : {q w : ℕ} {s : Side} (p : ℕ) → 4 ≤ p → SideAt t q w s → SideRow r t p s → SideRow (set r 3 y) (t ++ (x ∷ [])) p s
+    side-kept : {q w : ℕ} {s : Side} (p : ℕ) → leftColumn ≤ p → SideAt t q w s → SideRow r t p s → SideRow (set r takenColumn y) (t ++ (x ∷ [])) p s
     side-kept {s = s} p h of old = record {
       is = rw (kept p (λ e. omega arith), kept (p + 1) (λ e. omega arith), kept (p + 2) (λ e. omega arith)) (old .is);
-      length = kept (p + 3) (λ e. omega arith) ∙ old .length ∙ sideLen-more t (x ∷ []) s (side-inside b of .0);
-      window = kept (p + 4) (λ e. omega arith) ∙ old .window ∙ window-own b of ∙ sym (window-own b′ (side-more t x of));
+      length = kept (p + sideLenColumn) (λ e. omega arith) ∙ old .length ∙ sideLen-more t (x ∷ []) s (side-inside b of .0);
+      window = kept (p + sideWindowColumn) (λ e. omega arith) ∙ old .window ∙ window-own b of ∙ sym (window-own b′ (side-more t x of));
     }
 
-    kind-kept : (n : ℕ) → n < length t → (a : Node) → at t n ≡ a → KindOf r t a → KindOf (set r 3 y) (t ++ (x ∷ [])) a
+    kind-kept : (n : ℕ) → n < length t → (a : Node) → at t n ≡ a → KindOf r t a → KindOf (set r takenColumn y) (t ++ (x ∷ [])) a
     unfolding KindOf
-    kind-kept n h (leaf l) e k = kept 2 (λ e. omega arith) ∙ k
+    kind-kept n h (leaf l) e k = kept kindColumn (λ e. omega arith) ∙ k
     kind-kept n h (join m o l u) e k = (
-      kept 2 (λ e. omega arith) ∙ k .0,
-      side-kept 4 (omega arith) (left-at n m o l u h e) (k .1),
-      side-kept 9 (omega arith) (right-at n m o l u h e) (k .2),
+      kept kindColumn (λ e. omega arith) ∙ k .0,
+      side-kept leftColumn (omega arith) (left-at n m o l u h e) (k .1),
+      side-kept rightColumn (omega arith) (right-at n m o l u h e) (k .2),
     )
 
-  row-kept : (r : List ℕ) (n : ℕ) → n < length t → 3 < length r → Row r t n (at t n)
-      → Row (set r 3 (cond (taken (t ++ (x ∷ [])) n) 1 0)) (t ++ (x ∷ [])) n (at t n)
+  row-kept : (r : List ℕ) (n : ℕ) → n < length t → takenColumn < length r → Row r t n (at t n)
+      → Row (set r takenColumn (cond (taken (t ++ (x ∷ [])) n) 1 0)) (t ++ (x ∷ [])) n (at t n)
   row-kept r n h k old = record {
-    length = kept r y 0 (λ e. omega arith) ∙ old .length;
-    first = kept r y 1 (λ e. omega arith) ∙ old .first;
+    length = kept r y lengthColumn (λ e. omega arith) ∙ old .length;
+    first = kept r y firstColumn (λ e. omega arith) ∙ old .first;
     kind = kind-kept r y n h (at t n) refl (old .kind);
-    under = getD-set-same r 3 y 0 k;
-    list = ap (take (len (at t n))) (drop-set-lt 14 r 3 y (omega arith)) ∙ old .list;
+    under = getD-set-same r takenColumn y 0 k;
+    list = ap (take (len (at t n))) (drop-set-lt listColumn r takenColumn y (omega arith)) ∙ old .list;
   }
     where
       y : ℕ
@@ -179,7 +179,7 @@ module _ (t : List Node) (x : Node) (b : Bounded t) (b′ : Bounded (t ++ (x ∷
 
   -- The rows before are the same but for the number that says whether the node stands under a join.
   pub table-snoc : (ns ms : List ℕ) → NodesIn ns t → rowAt (length t + 1) ≤ length ms
-      → ((n : ℕ) → n < length t → rowOf ms n ≡ set (rowOf ns n) 3 (cond (taken (t ++ (x ∷ [])) n) 1 0))
+      → ((n : ℕ) → n < length t → rowOf ms n ≡ set (rowOf ns n) takenColumn (cond (taken (t ++ (x ∷ [])) n) 1 0))
       → Row (rowOf ms (length t)) (t ++ (x ∷ [])) (length t) x
       → take (leafCount (t ++ (x ∷ []))) ms ≡ leafLiterals (t ++ (x ∷ [])) → Table ms (t ++ (x ∷ []))
   table-snoc ns ms has room same here leaves = record {

@@ -5,7 +5,7 @@ use Prim.Native.Nat.{ℕ, zero, suc, _+_, _≤_, _<_}
 use native.Mathlib.Omega.{arith}
 use lib.ListN.{length, getD, take, drop}
 use lib.Seq.{getD-take, getD-drop, take-take, drop-drop}
-use Rattle.sizes.specs.Sizes.{row, rowAt, firstAt, leftAt, rightAt, leftWindow, rightWindow, listAt, width}
+use Rattle.sizes.specs.Sizes.{mostNodes, width, row, rowAt, lengthColumn, firstColumn, leftColumn, rightColumn, listColumn, sideLenColumn, sideWindowColumn, firstAt, leftAt, rightAt, listAt, leftWindow, rightWindow}
 use Rattle.totdb.specs.Nodes.{Node, leaf, join, at, leaves, len, output, fromFirst, sideLen}
 use Rattle.totdb.specs.declared.Side.{Side}
 use Rattle.rows.specs.Windows.{SideAt, left-at, right-at}
@@ -24,19 +24,19 @@ part-take (suc f) m (suc l) [] h = refl
 part-take (suc f) m (suc l) (x ∷ xs) h = part-take f m l xs (omega arith)
 
 module _ {ns : List ℕ} {t : List Node} (tb : Table ns t) (n : ℕ) (h : n < length t) where
-  pub row-there : (rowAt n + row ≤ length ns) × (n < 319) × (len (at t n) ≤ width)
+  pub row-there : (rowAt n + row ≤ length ns) × (n < mostNodes) × (len (at t n) ≤ width)
   row-there = (omega (arith, tb .has .room), omega (arith, tb .bounded .few), tb .bounded .short n h)
 
   pub len-is : getD ns (rowAt n) 0 ≡ len (at t n)
-  len-is = let e : rowAt n + 0 ≡ rowAt n = omega arith in rw e at (in-row ns n 0 (omega arith)) ∙ tb .has .row n h .length
+  len-is = let e : rowAt n + 0 ≡ rowAt n = omega arith in rw e at (in-row ns n lengthColumn (omega arith)) ∙ tb .has .row n h .length
 
   pub first-is : getD ns (firstAt n) 0 ≡ output (at t n) 1
-  first-is = in-row ns n 1 (omega arith) ∙ tb .has .row n h .first
+  first-is = in-row ns n firstColumn (omega arith) ∙ tb .has .row n h .first
 
   pub list-is : take (len (at t n)) (drop (listAt n) ns) ≡ leaves (at t n)
   list-is =
-      ap (take (len (at t n))) (sym (drop-drop 14 (rowAt n) ns))
-      ∙ sym (part-take 14 (len (at t n)) row (drop (rowAt n) ns) (omega (arith, row-there .2)))
+      ap (take (len (at t n))) (sym (drop-drop listColumn (rowAt n) ns))
+      ∙ sym (part-take listColumn (len (at t n)) row (drop (rowAt n) ns) (omega (arith, row-there .2)))
       ∙ tb .has .row n h .list
 
 -- The outputs of a node, from its first.
@@ -49,41 +49,41 @@ from-first (join ls o l r) v a b = omega arith
 
 module _ {ns : List ℕ} {t : List Node} (tb : Table ns t) where
   -- A side's numbers by the place of its row in the table, from those in its node's row.
-  side-row : (n q : ℕ) (s : Side) → q + 4 < row → SideRow (rowOf ns n) t q s
-      → (sideIn ns (rowAt n + q) ≡ s) × (getD ns (rowAt n + q + 3) 0 ≡ sideLen t s)
+  side-row : (n q : ℕ) (s : Side) → q + sideWindowColumn < row → SideRow (rowOf ns n) t q s
+      → (sideIn ns (rowAt n + q) ≡ s) × (getD ns (rowAt n + q + sideLenColumn) 0 ≡ sideLen t s)
   side-row n q s h r =
       let a : rowAt n + q + 1 ≡ rowAt n + (q + 1) = omega arith in
       let b : rowAt n + q + 2 ≡ rowAt n + (q + 2) = omega arith in
-      let c : rowAt n + q + 3 ≡ rowAt n + (q + 3) = omega arith in (
+      let c : rowAt n + q + sideLenColumn ≡ rowAt n + (q + sideLenColumn) = omega arith in (
         rw (in-row ns n q (omega arith), a, in-row ns n (q + 1) (omega arith), b, in-row ns n (q + 2) (omega arith)) (r .is),
-        rw (c, in-row ns n (q + 3) (omega arith)) (r .length),
+        rw (c, in-row ns n (q + sideLenColumn) (omega arith)) (r .length),
       )
 
-  side-window : (n q : ℕ) (s : Side) → q + 4 < row → SideRow (rowOf ns n) t q s
-      → getD ns (rowAt n + q + 4) 0 ≡ Rattle.rows.specs.Windows.windowAt t (s .node) (s .offset) (sideLen t s)
+  side-window : (n q : ℕ) (s : Side) → q + sideWindowColumn < row → SideRow (rowOf ns n) t q s
+      → getD ns (rowAt n + q + sideWindowColumn) 0 ≡ Rattle.rows.specs.Windows.windowAt t (s .node) (s .offset) (sideLen t s)
   side-window n q s h r =
-      let d : rowAt n + q + 4 ≡ rowAt n + (q + 4) = omega arith in
-      rw (d, in-row ns n (q + 4) (omega arith)) (r .window)
+      let d : rowAt n + q + sideWindowColumn ≡ rowAt n + (q + sideWindowColumn) = omega arith in
+      rw (d, in-row ns n (q + sideWindowColumn) (omega arith)) (r .window)
 
-  numbers : {p w : ℕ} {s : Side} → SideAt t p w s → (sideIn ns p ≡ s) × (getD ns (p + 3) 0 ≡ sideLen t s)
+  numbers : {p w : ℕ} {s : Side} → SideAt t p w s → (sideIn ns p ≡ s) × (getD ns (p + sideLenColumn) 0 ≡ sideLen t s)
   unfolding KindOf
   numbers (left-at n ls o l r h e) =
       let k : KindOf (rowOf ns n) t (join ls o l r) = subst (KindOf (rowOf ns n) t) e (tb .has .row n h .kind) in
-      side-row n 4 l (omega arith) (k .1)
+      side-row n leftColumn l (omega arith) (k .1)
   numbers (right-at n ls o l r h e) =
       let k : KindOf (rowOf ns n) t (join ls o l r) = subst (KindOf (rowOf ns n) t) e (tb .has .row n h .kind) in
-      side-row n 9 r (omega arith) (k .2)
+      side-row n rightColumn r (omega arith) (k .2)
 
-  place-is : {p w : ℕ} {s : Side} → SideAt t p w s → getD ns (p + 4) 0 ≡ w
+  place-is : {p w : ℕ} {s : Side} → SideAt t p w s → getD ns (p + sideWindowColumn) 0 ≡ w
   unfolding KindOf
   place-is (left-at n ls o l r h e) =
       let k : KindOf (rowOf ns n) t (join ls o l r) = subst (KindOf (rowOf ns n) t) e (tb .has .row n h .kind) in
-      side-window n 4 l (omega arith) (k .1) ∙ window-own (tb .bounded) (left-at n ls o l r h e)
+      side-window n leftColumn l (omega arith) (k .1) ∙ window-own (tb .bounded) (left-at n ls o l r h e)
   place-is (right-at n ls o l r h e) =
       let k : KindOf (rowOf ns n) t (join ls o l r) = subst (KindOf (rowOf ns n) t) e (tb .has .row n h .kind) in
-      side-window n 9 r (omega arith) (k .2) ∙ window-own (tb .bounded) (right-at n ls o l r h e)
+      side-window n rightColumn r (omega arith) (k .2) ∙ window-own (tb .bounded) (right-at n ls o l r h e)
 
-  inside : {p w : ℕ} {s : Side} → SideAt t p w s → p + 4 < length ns
+  inside : {p w : ℕ} {s : Side} → SideAt t p w s → p + sideWindowColumn < length ns
   inside (left-at n ls o l r h e) = omega (arith, row-there tb n h .0)
   inside (right-at n ls o l r h e) = omega (arith, row-there tb n h .0)
 

@@ -4,7 +4,7 @@ use mathlib.Core.Bool.{cond}
 use mathlib.Core.List.{List, [], _∷_}
 use Prim.Native.Nat.{ℕ, _+_, _^_, _≤_, _<_}
 use lib.ListN.{length, getD, take, drop}
-use Rattle.sizes.specs.Sizes.{mostLeaves, mostNodes, width, row, rowAt, firstAt, leftAt, rightAt}
+use Rattle.sizes.specs.Sizes.{mostLeaves, mostNodes, width, row, rowAt, lengthColumn, firstColumn, kindColumn, takenColumn, leftColumn, rightColumn, listColumn, sideLenColumn, sideWindowColumn, firstAt, leftAt, rightAt}
 use Rattle.totdb.specs.Nodes.{Node, leaf, join, at, len, leaves, output, sideLen, leafCount, taken}
 use Rattle.totdb.specs.declared.Side.{Side}
 use Rattle.cert.specs.Sized.{Sized}
@@ -23,21 +23,21 @@ sideIn r p = record { node = getD r p 0; offset = getD r (p + 1) 0; limit = getD
 -- A side's five numbers in a row: node, offset, limit; its length; the place of its window's first steps.
 pub record SideRow (r : List ℕ) (t : List Node) (p : ℕ) (s : Side) : Type 0 where
   pub is : sideIn r p ≡ s
-  pub length : getD r (p + 3) 0 ≡ sideLen t s
-  pub window : getD r (p + 4) 0 ≡ windowAt t (s .node) (s .offset) (sideLen t s)
+  pub length : getD r (p + sideLenColumn) 0 ≡ sideLen t s
+  pub window : getD r (p + sideWindowColumn) 0 ≡ windowAt t (s .node) (s .offset) (sideLen t s)
 
 -- A leaf, or a join with its sides.
 unfoldable pub KindOf : List ℕ → List Node → Node → Type 0
-KindOf r t (leaf l) = getD r 2 0 ≡ 0
-KindOf r t (join ls o a b) = (getD r 2 0 ≡ 1) × SideRow r t 4 a × SideRow r t 9 b
+KindOf r t (leaf l) = getD r kindColumn 0 ≡ 0
+KindOf r t (join ls o a b) = (getD r kindColumn 0 ≡ 1) × SideRow r t leftColumn a × SideRow r t rightColumn b
 
 -- The row of the node x of number n.
 pub record Row (r : List ℕ) (t : List Node) (n : ℕ) (x : Node) : Type 0 where
-  pub length : getD r 0 0 ≡ len x
-  pub first : getD r 1 0 ≡ output x 1
+  pub length : getD r lengthColumn 0 ≡ len x
+  pub first : getD r firstColumn 0 ≡ output x 1
   pub kind : KindOf r t x
-  pub under : getD r 3 0 ≡ cond (taken t n) 1 0
-  pub list : take (len x) (drop 14 r) ≡ leaves x
+  pub under : getD r takenColumn 0 ≡ cond (taken t n) 1 0
+  pub list : take (len x) (drop listColumn r) ≡ leaves x
 
 -- ---- the table
 
@@ -73,9 +73,9 @@ pub record Table (ns : List ℕ) (t : List Node) : Type 0 where
 abbrev pub shownIn : List ℕ → ℕ → Shown
 shownIn ns p = record {
   side = sideIn ns p;
-  len = getD ns (p + 3) 0;
-  first = getD ns (rowAt (getD ns p 0) + 1) 0;
-  window = getD ns (p + 4) 0;
+  len = getD ns (p + sideLenColumn) 0;
+  first = getD ns (firstAt (getD ns p 0)) 0;
+  window = getD ns (p + sideWindowColumn) 0;
 }
 
 -- What the table has of a side: s is one of the nodes t, with its length, its node's output of value 1, and the place of its window.
@@ -101,8 +101,8 @@ pub record JoinOf (t : List Node) (x : Join) : Type 0 where
 
 -- The five numbers of a side whose node has a row.
 pub record SidePlace (ns : List ℕ) (p : ℕ) : Type 0 where
-  pub there : p + 4 < length ns
-  pub below : rowAt (getD ns p 0) + 1 < length ns
+  pub there : p + sideWindowColumn < length ns
+  pub below : firstAt (getD ns p 0) < length ns
 
 -- A row whose two sides are such.
 pub record JoinRow (ns : List ℕ) (n : ℕ) : Type 0 where

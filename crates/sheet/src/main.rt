@@ -29,10 +29,10 @@ fn whole(script: &[u8], text: &mut [u8]) -> usize
 
 fn main() {
     // one byte more than a script may have, so that a longer one is refused
-    let mut script = [0u8; 65537];
+    let mut script = [0u8; sizes::MOST_BYTES + 1];
     let n = io::read_full(STDIN_FILENO, &mut script);
     read_on();
-    let mut text = [0u8; 262208];
+    let mut text = [0u8; lines::MOST_SHEET];
     let m = whole(&script[..n], &mut text);
     io::write_all(STDOUT_FILENO, &text[..m]);
 }

@@ -14,8 +14,11 @@ mostBytes = 65536
 abbrev pub mostLeaves : ℕ
 mostLeaves = 64
 
+abbrev pub mostJoins : ℕ
+mostJoins = 255
+
 abbrev pub mostNodes : ℕ
-mostNodes = 319
+mostNodes = mostLeaves + mostJoins
 
 -- The least bytes of a leaf's command, and of a join's.
 abbrev pub leafBytes : ℕ
@@ -39,7 +42,7 @@ someBytes = 576
 
 -- The values of a node: no more than there are leaves.
 abbrev pub width : ℕ
-width = 64
+width = mostLeaves
 
 -- The counter of steps stops here. No log reaches it: a step takes two bytes at least.
 abbrev pub stepStop : ℕ
@@ -51,30 +54,59 @@ abbrev pub row : ℕ
 row = 78
 
 abbrev pub rowAt : ℕ → ℕ
-rowAt n = 64 + 78 * n
+rowAt n = mostLeaves + row * n
 
--- In a row: the length (0); the output of value 1; 1 for a join, 0 for a leaf; 1 if it stands under a join, else 0; the left side; the right
+-- In a row: the length; the output of value 1; 1 for a join, 0 for a leaf; 1 if it stands under a join, else 0; the left side; the right
 -- side; the leaf list.
+abbrev pub lengthColumn : ℕ
+lengthColumn = 0
+
+abbrev pub firstColumn : ℕ
+firstColumn = 1
+
+abbrev pub kindColumn : ℕ
+kindColumn = 2
+
+abbrev pub takenColumn : ℕ
+takenColumn = 3
+
+abbrev pub leftColumn : ℕ
+leftColumn = 4
+
+abbrev pub rightColumn : ℕ
+rightColumn = 9
+
+abbrev pub listColumn : ℕ
+listColumn = 14
+
+-- Of a side, after node, offset and limit: its length; the place of its window's first steps.
+abbrev pub sideLenColumn : ℕ
+sideLenColumn = 3
+
+abbrev pub sideWindowColumn : ℕ
+sideWindowColumn = 4
+
+-- The places of these in the table.
 abbrev pub firstAt : ℕ → ℕ
-firstAt n = rowAt n + 1
+firstAt n = rowAt n + firstColumn
 
 abbrev pub kindAt : ℕ → ℕ
-kindAt n = rowAt n + 2
+kindAt n = rowAt n + kindColumn
 
 abbrev pub takenAt : ℕ → ℕ
-takenAt n = rowAt n + 3
+takenAt n = rowAt n + takenColumn
 
 abbrev pub leftAt : ℕ → ℕ
-leftAt n = rowAt n + 4
+leftAt n = rowAt n + leftColumn
 
 abbrev pub rightAt : ℕ → ℕ
-rightAt n = rowAt n + 9
+rightAt n = rowAt n + rightColumn
 
 abbrev pub listAt : ℕ → ℕ
-listAt n = rowAt n + 14
+listAt n = rowAt n + listColumn
 
 abbrev pub nodesSize : ℕ
-nodesSize = 24946
+nodesSize = rowAt mostNodes
 
 -- ---- the store: the places of the stored definitions in the order of their writing, then a row for each node
 
@@ -82,20 +114,32 @@ nodesSize = 24946
 abbrev pub trail : ℕ
 trail = 8192
 
+abbrev pub storeRow : ℕ
+storeRow = 134
+
 abbrev pub storeAt : ℕ → ℕ
-storeAt n = 8192 + 134 * n
+storeAt n = trail + storeRow * n
 
 -- In a row: the first steps of the real definitions of the values 0 to 65; of a join, those of the window of its left side (the sum of value 0,
 -- the rest), and of its right side; the directions held of the values 1 to 64, as a request names them.
+abbrev pub leftWindowColumn : ℕ
+leftWindowColumn = 66
+
+abbrev pub rightWindowColumn : ℕ
+rightWindowColumn = 68
+
+-- The place before that of value 1.
+abbrev pub heldColumn : ℕ
+heldColumn = 69
+
 abbrev pub leftWindow : ℕ → ℕ
-leftWindow n = storeAt n + 66
+leftWindow n = storeAt n + leftWindowColumn
 
 abbrev pub rightWindow : ℕ → ℕ
-rightWindow n = storeAt n + 68
+rightWindow n = storeAt n + rightWindowColumn
 
--- Of the values from 1 on.
 abbrev pub heldAt : ℕ → ℕ → ℕ
-heldAt n v = storeAt n + 69 + v
+heldAt n v = storeAt n + heldColumn + v
 
 abbrev pub storeSize : ℕ
-storeSize = 50938
+storeSize = storeAt mostNodes

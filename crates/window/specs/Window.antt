@@ -2,9 +2,10 @@
 use mathlib.Core.Path.{_≡_}
 use mathlib.Core.Bool.{Bool, true, false, cond}
 use mathlib.Core.List.{List, [], map}
-use Prim.Native.Nat.{ℕ, _+_, _-_, _≤_, _<_}
+use Prim.Native.Nat.{ℕ, _+_, _-_, _*_, _≤_, _<_}
 use lib.Dec.{eqb}
 use lib.ListN.{length, getD}
+use Rattle.sizes.specs.Sizes.{width, leftWindowColumn}
 use Rattle.pb.specs.Rules.{Token}
 use Rattle.totdb.specs.Nodes.{Node, output, range}
 use Rattle.cert.specs.Definitions.{Key, addSequence, real, ifPart, onlyIfPart, total}
@@ -21,8 +22,8 @@ pub record Handed (row outputs : List ℕ) (at-step : Key → ℕ → ℕ) (n : 
 
 -- A window inside the node's row and its outputs. It has two outputs or more, and there are steps and a node that it is handed for.
 pub record Bounds (row outputs : List ℕ) (offset len : ℕ) : Type 0 where
-  pub size : 66 ≤ length row
-  pub values : offset + len ≤ 64
+  pub size : leftWindowColumn ≤ length row
+  pub values : offset + len ≤ width
   pub several : 1 < len
   pub inside : offset + len ≤ length outputs
   pub at-step : Key → ℕ → ℕ
@@ -65,6 +66,6 @@ summandRoom = 40
 abbrev pub addedRoom : ℕ
 addedRoom = 45
 
--- No derivation takes more bytes: kind and count, and an added summand for each of 64 values.
+-- No derivation takes more bytes: kind and count, and an added summand for each value of a node.
 abbrev pub derivationRoom : ℕ
-derivationRoom = 2890
+derivationRoom = 10 + addedRoom * width

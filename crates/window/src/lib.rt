@@ -4,6 +4,7 @@ ghost use mathlib.Core.Path.{_≡_};
 ghost use mathlib.Core.List.{List, flatMap};
 ghost use Prim.Native.Nat.{ℕ, _+_, _-_, _*_, _≤_, _<_};
 ghost use lib.ListN.{length};
+ghost use Rattle.sizes.specs.Sizes.{width};
 ghost use Rattle.record.specs.Record.{derivation, numbers, tokenNumbers};
 ghost use Rattle.record.specs.Writing.{buffer, Puts};
 ghost use Rattle.totdb.specs.Nodes.{Node, range};
@@ -15,7 +16,7 @@ const DERIVATION_ROOM: usize = 2890;
 
 // The first value of a window that is not `value`: the first summand that is not empty.
 fn first_other(offset: usize, value: usize) -> usize
-    requires { ⌜ offset ≤ 64 ⌝ }
+    requires { ⌜ offset ≤ width ⌝ }
     ensures { λ r. ⌜ (r ≡ firstOther offset value) × (offset < r) × (r ≤ offset + 2) ⌝ }
 {
     if value == offset + 1 {
@@ -27,7 +28,7 @@ fn first_other(offset: usize, value: usize) -> usize
 
 // How many tokens a derivation of `value` has: a literal or five for each other value, and the additions between them.
 fn count_tokens(offset: usize, len: usize, value: usize, only_if: bool) -> u32
-    requires { ⌜ (offset + len ≤ 64) × (1 < len) × Within offset len value ⌝ }
+    requires { ⌜ (offset + len ≤ width) × (1 < len) × Within offset len value ⌝ }
     ensures { λ r. ⌜ ((at-step : Key → ℕ → ℕ) (n : ℕ) (x : Node) → r ≡ length (tokensOf «only_if» at-step n x offset len value)) ⌝ }
 {
     let below = value - offset - 1;

@@ -2,7 +2,7 @@
 use mathlib.Core.Path.{refl}
 use Prim.Native.Nat.{_+_}
 use native.Mathlib.Omega.{arith}
-use Rattle.sizes.specs.Sizes.{storeAt}
+use Rattle.sizes.specs.Sizes.{listColumn, storeAt}
 use Rattle.totdb.specs.Nodes.{at}
 use Rattle.cert.specs.Definitions.{real, pulls}
 use Rattle.define.specs.Store.{slot}
@@ -90,7 +90,7 @@ put-real-requires c κs =
     let s = start .pre in
     let b = real-bounds s in
     let k = row-length (a .nodes .now) (a .node) (a .value) (row .row-at .ensures) (length .number-at .ensures .0) in (
-      (part-short (row .row-at .result + 14) (length .number-at .result) (a .nodes .now) (omega (arith, b .short, k)), b .values, rw (row .row-at .ensures) (b .low)),
+      (part-short (row .row-at .result + listColumn) (length .number-at .result) (a .nodes .now) (omega (arith, b .short, k)), b .values, rw (row .row-at .ensures) (b .low)),
       (at (s .nodes) (a .node), real-node (a .nodes .now) (a .node) (a .value) (row .row-at .ensures) (length .number-at .ensures .0) (s .nodes) (s .table) (s .holds)),
     )
 

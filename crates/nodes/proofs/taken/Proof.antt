@@ -2,6 +2,7 @@
 use Prim.Native.Nat.{_+_}
 use borrow.Author.Needs.{needs}
 use lib.ListN.{getD}
+use Rattle.sizes.specs.Sizes.{takenColumn}
 use Rattle.totdb.specs.Nodes.{taken}
 use Rattle.nodes.proofs.Having.{taken-is, test}
 use Rattle.nodes.proofs.taken.Statement.{statement}
@@ -23,7 +24,7 @@ returns : tie.Need-returns
 returns c =
     let a = c .before .before .before .args in
     let at = c .before .row-at in
-    λ t tb h. test (getD (a .nodes .now) (at .result + 3) 0) (taken t (a .node)) (rw (at .ensures) (taken-is tb (a .node) h))
+    λ t tb h. test (getD (a .nodes .now) (at .result + takenColumn) 0) (taken t (a .node)) (rw (at .ensures) (taken-is tb (a .node) h))
 
 pub taken-spec : {M : Type 1} → statement M
 taken-spec =

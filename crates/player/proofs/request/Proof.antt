@@ -1,12 +1,12 @@
--- `player::request` meets its contract: each number in its turn.
+-- `player::request` meets its contract: three numbers.
 use mathlib.Core.Path.{sym, _∙_}
 use borrow.Author.Needs.{needs}
 use Rattle.player.proofs.Places.{request-at}
 use Rattle.player.proofs.request.Statement.{statement}
 use Rattle.player.proofs.request.Tie as tie
 
-read-requires : tie.Need-read-requires
-read-requires c κs = search needs
+triple-requires : tie.Need-triple-requires
+triple-requires c κs = search needs
 
 enum-known-node : tie.Need-enum-known-node
 enum-known-node c = search needs
@@ -18,88 +18,21 @@ returns : tie.Need-returns
 returns c =
     let failed = c .before .before in
     let a = failed .before .before .args in
-    rw (
-      request-at (a .script .now) (a .at),
-      sym (failed .read .ensures) ∙ c .enum-told .given .1,
-    )
+    rw (request-at (a .script .now) (a .at), sym (failed .triple .ensures) ∙ c .enum-told .given .1)
 
-read-requires-2 : tie.Need-read-requires-2
-read-requires-2 c κs = search needs
+cast-t8 : tie.Need-cast-t8
+cast-t8 c = search needs
 
-enum-known-value : tie.Need-enum-known-value
-enum-known-value c = search needs
-
-enum-told-2 : tie.Need-enum-told-2
-enum-told-2 c = search needs
+cast-t9 : tie.Need-cast-t9
+cast-t9 c = search needs
 
 returns-2 : tie.Need-returns-2
 returns-2 c =
-    let failed = c .before .before in
-    let first = failed .before .before in
-    let a = first .before .before .before .before .args in
-    rw (
-      request-at (a .script .now) (a .at),
-      sym (first .before .before .read .ensures) ∙ first .node .given .1,
-      sym (failed .read2 .ensures) ∙ c .enum-told2 .given .1,
-    )
-
-read-requires-3 : tie.Need-read-requires-3
-read-requires-3 c κs = search needs
-
-enum-known-direction : tie.Need-enum-known-direction
-enum-known-direction c = search needs
-
-enum-told-3 : tie.Need-enum-told-3
-enum-told-3 c = search needs
-
-returns-3 : tie.Need-returns-3
-returns-3 c =
-    let failed = c .before .before in
-    let second = failed .before .before in
-    let first = second .before .before .before .before in
-    let a = first .before .before .before .before .args in
-    rw (
-      request-at (a .script .now) (a .at),
-      sym (first .before .before .read .ensures) ∙ first .node .given .1,
-      sym (second .before .before .read2 .ensures) ∙ second .value .given .1,
-      sym (failed .read3 .ensures) ∙ c .enum-told3 .given .1,
-    )
-
-cast-t12 : tie.Need-cast-t12
-cast-t12 c = search needs
-
-cast-t13 : tie.Need-cast-t13
-cast-t13 c = search needs
-
-returns-4 : tie.Need-returns-4
-returns-4 c =
-    let third = c .before in
-    let second = third .before .before .before .before in
-    let first = second .before .before .before .before in
-    let a = first .before .before .before .before .args in
-    rw (
-      request-at (a .script .now) (a .at),
-      sym (first .before .before .read .ensures) ∙ first .node .given .1,
-      sym (second .before .before .read2 .ensures) ∙ second .value .given .1,
-      sym (third .before .before .read3 .ensures) ∙ third .direction .given .1,
-    )
+    let read = c .before in
+    let a = read .before .before .before .before .args in
+    rw (request-at (a .script .now) (a .at), sym (read .before .before .triple .ensures) ∙ read .node .given .1)
 
 pub request-spec : {M : Type 1} → statement M
 request-spec =
     tie.close
-    (tie.spec
-    read-requires
-    enum-known-node
-    enum-told
-    returns
-    read-requires-2
-    enum-known-value
-    enum-told-2
-    returns-2
-    read-requires-3
-    enum-known-direction
-    enum-told-3
-    returns-3
-    cast-t12
-    cast-t13
-    returns-4)
+    (tie.spec triple-requires enum-known-node enum-told returns cast-t8 cast-t9 returns-2)

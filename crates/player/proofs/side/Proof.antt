@@ -1,11 +1,11 @@
--- `player::side` meets its contract: each number in its turn.
+-- `player::side` meets its contract: three numbers.
 use mathlib.Core.Path.{sym, _∙_}
 use borrow.Author.Needs.{needs}
 use Rattle.player.proofs.side.Statement.{statement}
 use Rattle.player.proofs.side.Tie as tie
 
-read-requires : tie.Need-read-requires
-read-requires c κs = search needs
+triple-requires : tie.Need-triple-requires
+triple-requires c κs = search needs
 
 enum-known-node : tie.Need-enum-known-node
 enum-known-node c = search needs
@@ -14,85 +14,31 @@ enum-told : tie.Need-enum-told
 enum-told c = search needs
 
 returns : tie.Need-returns
-returns c =
-    let failed = c .before .before in
-    rw (sym (failed .read .ensures) ∙ c .enum-told .given .1)
+returns c = rw (sym (c .before .before .triple .ensures) ∙ c .enum-told .given .1)
 
-read-requires-2 : tie.Need-read-requires-2
-read-requires-2 c κs = search needs
+cast-t9 : tie.Need-cast-t9
+cast-t9 c = search needs
 
-enum-known-offset : tie.Need-enum-known-offset
-enum-known-offset c = search needs
+cast-t10 : tie.Need-cast-t10
+cast-t10 c = search needs
 
-enum-told-2 : tie.Need-enum-told-2
-enum-told-2 c = search needs
+cast-t11 : tie.Need-cast-t11
+cast-t11 c = search needs
 
 returns-2 : tie.Need-returns-2
 returns-2 c =
-    let failed = c .before .before in
-    let first = failed .before .before in
-    rw (
-      sym (first .before .before .read .ensures) ∙ first .node .given .1,
-      sym (failed .read2 .ensures) ∙ c .enum-told2 .given .1,
-    )
-
-read-requires-3 : tie.Need-read-requires-3
-read-requires-3 c κs = search needs
-
-enum-known-limit : tie.Need-enum-known-limit
-enum-known-limit c = search needs
-
-enum-told-3 : tie.Need-enum-told-3
-enum-told-3 c = search needs
-
-returns-3 : tie.Need-returns-3
-returns-3 c =
-    let failed = c .before .before in
-    let second = failed .before .before in
-    let first = second .before .before .before .before in
-    rw (
-      sym (first .before .before .read .ensures) ∙ first .node .given .1,
-      sym (second .before .before .read2 .ensures) ∙ second .offset .given .1,
-      sym (failed .read3 .ensures) ∙ c .enum-told3 .given .1,
-    )
-
-cast-t13 : tie.Need-cast-t13
-cast-t13 c = search needs
-
-cast-t14 : tie.Need-cast-t14
-cast-t14 c = search needs
-
-cast-t15 : tie.Need-cast-t15
-cast-t15 c = search needs
-
-returns-4 : tie.Need-returns-4
-returns-4 c =
-    let third = c .before in
-    let second = third .before .before .before .before in
-    let first = second .before .before .before .before in
-    rw (
-      sym (first .before .before .read .ensures) ∙ first .node .given .1,
-      sym (second .before .before .read2 .ensures) ∙ second .offset .given .1,
-      sym (third .before .before .read3 .ensures) ∙ third .limit .given .1,
-    )
+    let read = c .before in
+    rw (sym (read .before .before .triple .ensures) ∙ read .node .given .1)
 
 pub side-spec : {M : Type 1} → statement M
 side-spec =
     tie.close
     (tie.spec
-    read-requires
+    triple-requires
     enum-known-node
     enum-told
     returns
-    read-requires-2
-    enum-known-offset
-    enum-told-2
-    returns-2
-    read-requires-3
-    enum-known-limit
-    enum-told-3
-    returns-3
-    cast-t13
-    cast-t14
-    cast-t15
-    returns-4)
+    cast-t9
+    cast-t10
+    cast-t11
+    returns-2)

@@ -15,7 +15,7 @@ use Rattle.define.specs.Represents.{memory}
 use Rattle.define.proofs.Simulates.{sims-full, store-room, represented-to, represented-after}
 use Rattle.request.proofs.Asks.{asked-room, asked-row, asked-join, asked-left, asked-right-side, asked-below, left-below, right-below}
 use Rattle.request.proofs.Grow.{ask-grows}
-use Rattle.request.proofs.Steps.{Lower, node-leaf, node-held, node-join, held-asks, join-done, side-none, side-more, side-done}
+use Rattle.request.proofs.Steps.{Lower, node-leaf, node-held, node-join, held-asks, join-done, side-none, side-more, side-done, side-leaf}
 use borrow.Fn.Kinds.{In}
 use borrow.Fn.PlainCycle.{Measures, is, falls, and}
 use Rattle.request.proofs.node_request.Reads as node-request
@@ -82,6 +82,8 @@ node-claims t = (
 
 abbrev side-claims : ℕ → side-request-lts.Claims
 side-claims t = (
+  is-leaf-reads.Asked,
+  is-leaf-reads.Learnt,
   lowest-reads.Asked,
   lowest-reads.Learnt,
   highest-reads.Asked,
@@ -179,6 +181,15 @@ side-request-Inv-loop nodes store₀ log₀ q value only-if side low high p₀ i
 abbrev side-request-μ-loop : side-request-lts.MeasureT-loop
 side-request-μ-loop nodes store₀ log₀ q value only-if side low high p₀ i₀ i-end store log p i = i-end - i
 
+side-request-is-leaf-requires : (t : ℕ) → side-request-lts.Need-is-leaf-requires (side-claims t) (side-request-at t) side-request.Post side-request-Inv-loop side-request-μ-loop
+side-request-is-leaf-requires t c κs =
+    let w = c .before .before .before .before .pre .1 in
+    let r = row-there (w .table) _ (side-inside (w .table .bounded) (w .holds .shown .of) .0) in
+    (r .1, r .0)
+
+side-request-returns : (t : ℕ) → side-request-lts.Need-returns (side-claims t) (side-request-at t) side-request.Post side-request-Inv-loop side-request-μ-loop
+side-request-returns t c = side-leaf (direction _) (rw (c .before .is-leaf .ensures) at (c .if1 .taken))
+
 side-request-lowest-requires : (t : ℕ) → side-request-lts.Need-lowest-requires (side-claims t) (side-request-at t) side-request.Post side-request-Inv-loop side-request-μ-loop
 side-request-lowest-requires t c κs = tt
 
@@ -186,14 +197,14 @@ side-request-highest-requires : (t : ℕ) → side-request-lts.Need-highest-requ
 side-request-highest-requires t c κs = tt
 
 side-request-add-i-end : (t : ℕ) → side-request-lts.Need-add-i-end (side-claims t) (side-request-at t) side-request.Post side-request-Inv-loop side-request-μ-loop
-side-request-add-i-end t c = omega (arith, c .highest .ensures, c .before .before .before .before .before .before .pre .1 .holds .within)
+side-request-add-i-end t c = omega (arith, c .highest .ensures, c .before .before .before .before .before .before .before .before .pre .1 .holds .within)
 
 side-request-loop-holds : (t : ℕ) → side-request-lts.Need-loop-holds (side-claims t) (side-request-at t) side-request.Post side-request-Inv-loop side-request-μ-loop
 side-request-loop-holds t c = (omega arith, omega arith, refl, refl, (λ z e h. side-none (direction _) _))
 
 side-request-add-is-held : (t : ℕ) → side-request-lts.Need-add-is-held (side-claims t) (side-request-at t) side-request.Post side-request-Inv-loop side-request-μ-loop
 side-request-add-is-held t c =
-    let w = c .before .before .before .before .before .before .before .before .before .before .pre .1 in
+    let w = c .before .before .before .before .before .before .before .before .before .before .before .before .pre .1 in
     let f = side-inside (w .table .bounded) (w .holds .shown .of) in
     let short = w .table .bounded .short _ (f .0) in
     omega (arith, c .before .before .loop-test .taken, c .before .before .before .before .highest .ensures, w .holds .shown .length, f .1, short)
@@ -201,13 +212,13 @@ side-request-add-is-held t c =
 side-request-is-held-requires : (t : ℕ) → side-request-lts.Need-is-held-requires (side-claims t) (side-request-at t) side-request.Post side-request-Inv-loop side-request-μ-loop
 side-request-is-held-requires t c κs =
     let l = c .before .before .before in
-    let w = l .before .before .before .before .before .before .before .pre .1 in
+    let w = l .before .before .before .before .before .before .before .before .before .pre .1 in
     let low : 1 ≤ l .loop .i = omega (arith, l .loop .inv .0, l .before .before .lowest .ensures) in
-    let high : l .loop .i ≤ l .before .before .before .before .before .before .before .args .s .len = omega (arith, c .before .before .loop-test .taken, l .before .highest .ensures) in
+    let high : l .loop .i ≤ l .before .before .before .before .before .before .before .before .before .args .s .len = omega (arith, c .before .before .loop-test .taken, l .before .highest .ensures) in
     asked-room (w .table .bounded) (asked-below (w .table .bounded) (w .holds) _ low high) _ (omega (arith, store-room (w .represents), l .loop .inv .2))
 
 side-request-add-i : (t : ℕ) → side-request-lts.Need-add-i (side-claims t) (side-request-at t) side-request.Post side-request-Inv-loop side-request-μ-loop
-side-request-add-i t c = omega (arith, c .before .before .before .before .loop-test .taken, c .before .before .before .before .before .before .highest .ensures, c .before .before .before .before .before .before .before .before .before .before .before .before .pre .1 .holds .within)
+side-request-add-i t c = omega (arith, c .before .before .before .before .loop-test .taken, c .before .before .before .before .before .before .highest .ensures, c .before .before .before .before .before .before .before .before .before .before .before .before .before .before .pre .1 .holds .within)
 
 side-request-loop-less : (t : ℕ) → side-request-lts.Need-loop-less (side-claims t) (side-request-at t) side-request.Post side-request-Inv-loop side-request-μ-loop
 side-request-loop-less t c = search needs
@@ -220,12 +231,12 @@ side-request-loop-again t c =
       l .loop .inv .2,
       l .loop .inv .3,
       (λ z e h. side-more (direction _) _ _ (l .loop .inv .0) (omega (arith, l .before .before .lowest .ensures)) (omega (arith, c .before .before .before .before .loop-test .taken, h)) (l .loop .inv .4 z e h)
-          (rw e (held-asks _ (sym (c .before .is-held .ensures) ∙ c .if1 .taken)))),
+          (rw e (held-asks _ (sym (c .before .is-held .ensures) ∙ c .if2 .taken)))),
     )
 
 side-request-add-node-request : (t : ℕ) → side-request-lts.Need-add-node-request (side-claims t) (side-request-at t) side-request.Post side-request-Inv-loop side-request-μ-loop
 side-request-add-node-request t c =
-    let w = c .before .before .before .before .before .before .before .before .before .before .before .before .before .before .before .pre .1 in
+    let w = c .before .before .before .before .before .before .before .before .before .before .before .before .before .before .before .before .before .pre .1 in
     let f = side-inside (w .table .bounded) (w .holds .shown .of) in
     let short = w .table .bounded .short _ (f .0) in
     omega (arith, c .before .before .before .before .before .before .before .loop-test .taken, c .before .before .before .before .before .before .before .before .before .highest .ensures, w .holds .shown .length, f .1, short)
@@ -233,7 +244,7 @@ side-request-add-node-request t c =
 side-request-node-request-requires : (t : ℕ) → side-request-lts.Need-node-request-requires (side-claims t) (side-request-at t) side-request.Post side-request-Inv-loop side-request-μ-loop
 side-request-node-request-requires t c κs =
     let l = c .before .before .before .before .before .before .before .before in
-    let s = l .before .before .before .before .before .before .before in
+    let s = l .before .before .before .before .before .before .before .before .before in
     let a = s .args in
     let low : 1 ≤ l .loop .i = omega (arith, l .loop .inv .0, l .before .before .lowest .ensures) in
     let high : l .loop .i ≤ a .s .len = omega (arith, c .before .before .before .before .before .before .before .loop-test .taken, l .before .highest .ensures) in (
@@ -243,7 +254,7 @@ side-request-node-request-requires t c κs =
     )
 
 side-request-add-i-2 : (t : ℕ) → side-request-lts.Need-add-i-2 (side-claims t) (side-request-at t) side-request.Post side-request-Inv-loop side-request-μ-loop
-side-request-add-i-2 t c = omega (arith, c .before .before .before .before .before .before .before .before .before .before .before .before .loop-test .taken, c .before .before .before .before .before .before .before .before .before .before .before .before .before .before .highest .ensures, c .before .before .before .before .before .before .before .before .before .before .before .before .before .before .before .before .before .before .before .before .pre .1 .holds .within)
+side-request-add-i-2 t c = omega (arith, c .before .before .before .before .before .before .before .before .before .before .before .before .loop-test .taken, c .before .before .before .before .before .before .before .before .before .before .before .before .before .before .highest .ensures, c .before .before .before .before .before .before .before .before .before .before .before .before .before .before .before .before .before .before .before .before .before .before .pre .1 .holds .within)
 
 side-request-loop-less-2 : (t : ℕ) → side-request-lts.Need-loop-less-2 (side-claims t) (side-request-at t) side-request.Post side-request-Inv-loop side-request-μ-loop
 side-request-loop-less-2 t c = search needs
@@ -266,10 +277,10 @@ side-request-same-length t c = c .before .loop .inv .2
 side-request-same-length-2 : (t : ℕ) → side-request-lts.Need-same-length-2 (side-claims t) (side-request-at t) side-request.Post side-request-Inv-loop side-request-μ-loop
 side-request-same-length-2 t c = c .before .loop .inv .3
 
-side-request-returns : (t : ℕ) → side-request-lts.Need-returns (side-claims t) (side-request-at t) side-request.Post side-request-Inv-loop side-request-μ-loop
-side-request-returns t c =
+side-request-returns-2 : (t : ℕ) → side-request-lts.Need-returns-2 (side-claims t) (side-request-at t) side-request.Post side-request-Inv-loop side-request-μ-loop
+side-request-returns-2 t c =
     let l = c .before in
-    let a = l .before .before .before .before .before .before .before .args in
+    let a = l .before .before .before .before .before .before .before .before .before .args in
     side-done (direction _) _ _ (l .loop .i) (l .before .before .lowest .ensures) (l .before .highest .ensures)
     (omega (arith, l .loop .inv .0, l .loop .inv .1, c .loop-test .left)) (l .loop .inv .4 (a .s) refl (high-within _ _ _ (l .before .highest .ensures)))
 
@@ -290,20 +301,13 @@ pub +node-request+side-request-spec : {M : Type 1} → statement M
     (node-request-same-length-2 t)
     (node-request-same-length-3 t)
     (node-request-returns-4 t))
-    λ t. side-request-lts.spec (
-      lowest-reads.Asked,
-      lowest-reads.Learnt,
-      highest-reads.Asked,
-      highest-reads.Learnt,
-      is-held-reads.Asked,
-      is-held-reads.Learnt,
-      node-request-below t,
-      node-request.Post,
-    )
+    λ t. side-request-lts.spec (side-claims t)
     (side-request-at t)
     side-request.Post
     side-request-Inv-loop
     side-request-μ-loop
+    (side-request-is-leaf-requires t)
+    (side-request-returns t)
     (side-request-lowest-requires t)
     (side-request-highest-requires t)
     (side-request-add-i-end t)
@@ -320,4 +324,4 @@ pub +node-request+side-request-spec : {M : Type 1} → statement M
     (side-request-loop-again-2 t)
     (side-request-same-length t)
     (side-request-same-length-2 t)
-    (side-request-returns t)
+    (side-request-returns-2 t)
