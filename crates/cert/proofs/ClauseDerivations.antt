@@ -9,7 +9,7 @@ use native.Mathlib.Omega.{arith}
 use lib.ListN.{length, length-append}
 use Rattle.pb.specs.Rules.{Token, addition, evaluate, step, saturate}
 use Rattle.pb.specs.Sum.{Sum, units, neg, variable, normal, clauseSum, keep, _·_, _≥_}
-use Rattle.pb.proofs.Normal.{Same, Off, Apart, Clean, Apart-clean, same-room, weight}
+use Rattle.pb.proofs.Normal.{SameSum, Off, Apart, Clean, Apart-clean, same-room, weight}
 use Rattle.pb.proofs.Rules.{same-trans, same-add, literal-part, same-refl, Apart-keep, coef-units, weight-units, coef-negs, weight-negs}
 use Rattle.pb.proofs.Terms.{variable-neg}
 use Rattle.totdb.specs.Nodes.{Node, sideLit, sideLen}
@@ -21,14 +21,14 @@ use Rattle.cert.proofs.Totalizer.{real-if, real-only-if, if-clause, ats
 
 -- The text stands for t: it is empty, and to add t changes nothing; or it gives a sum with room that says the same as t.
 pub data Stands (sums : ℕ → Option Sum) : List Token → Sum → Type 0 where
-  stands-nothing : {t : Sum} → ((s : Sum) → Same s (addition s t)) → Stands sums [] t
-  stands-given : {k : Token} {ks : List Token} {x t : Sum} → Gives sums (k ∷ ks) x → Same x t → Room x → Stands sums (k ∷ ks) t
+  stands-nothing : {t : Sum} → ((s : Sum) → SameSum s (addition s t)) → Stands sums [] t
+  stands-given : {k : Token} {ks : List Token} {x t : Sum} → Gives sums (k ∷ ks) x → SameSum x t → Room x → Stands sums (k ∷ ks) t
 
 -- A text that gives a sum which says the same as t.
 record Like (sums : ℕ → Option Sum) (ks : List Token) (t : Sum) : Type 0 where
   value : Sum
   gives : Gives sums ks value
-  same : Same value t
+  same : SameSum value t
 
 like-more : {sums : ℕ → Option Sum} {ks js : List Token} {s t : Sum} (g : Like sums ks s) → Room (g .value) → Stands sums js t
     → Like sums (addSequence ks js) (addition s t)
@@ -49,7 +49,7 @@ apart-negs (l ∷ ls) h = (rw variable-neg (off-negs (variable l) ls (h .0)), ap
 module _ (ls rs : List ℕ) (o p q v a b : ℕ) (ha : a ≤ length ls) (hb : b ≤ length rs) where
   -- this and the left side: the left leaves cancel
   pub half : a + b ≡ v
-      → Same (addition (real-if (ls ++ rs) o v) (real-only-if ls p a))
+      → SameSum (addition (real-if (ls ++ rs) o v) (real-only-if ls p a))
       (keep a (neg p) ((length ls + length rs + 1 - v) · o ∷ units (map neg rs)) ≥ length rs + 1 - b)
   unfolding weight
   half e = record {
@@ -76,7 +76,7 @@ module _ (sums : ℕ → Option Sum) (m : ℕ) (left right : List Token) (ls rs 
       evaluate-gives (gives-saturate (y .gives)) ∙ ap some (if-clause ls rs o p q v a b ha hb s i j k (y .value) (y .same))
 
   only-half : a + b + 1 ≡ v
-      → Same (addition (real-only-if (ls ++ rs) o v) (real-if ls p (a + 1))) (keep (length ls - a) p (v · neg o ∷ units rs) ≥ b + 1)
+      → SameSum (addition (real-only-if (ls ++ rs) o v) (real-if ls p (a + 1))) (keep (length ls - a) p (v · neg o ∷ units rs) ≥ b + 1)
   unfolding weight
   only-half s = record {
     at = λ (l : ℕ). simp (ats, coef-units, one-less) (omega arith);

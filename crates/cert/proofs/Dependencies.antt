@@ -5,7 +5,7 @@ use mathlib.Core.List.{List, [], _∷_, _++_, flatMap, append-nil, List·Memᴰ,
 use Prim.Native.Nat.{ℕ, zero, suc, _+_, _-_, _≤_}
 use native.Mathlib.Decide.{decLe}
 use native.Mathlib.Omega.{arith}
-use Rattle.memo.specs.Closure.{Same}
+use Rattle.memo.specs.Closure.{SameMembers}
 use Rattle.memo.proofs.Lists.{flatMap-append, flatMap-map, flatMap-agree, mem-flatMap, of-flatMap}
 use Rattle.totdb.specs.Nodes.{Node, leaf, join, at, leaves, len, sideLen}
 use Rattle.totdb.specs.declared.Side.{Side}
@@ -70,7 +70,7 @@ module _ (d : Direction) (l r : Side) (f g : ℕ → List ℕ) (S xs ys : List �
   gathered : ((α i : ℕ) → List·Memᴰ α S → List·Memᴰ i (f α) → List·Memᴰ i xs) → ((α i : ℕ) → List·Memᴰ α S → List·Memᴰ i (g α) → List·Memᴰ i ys)
       → ((i : ℕ) → List·Memᴰ i xs → (α : ℕ) × List·Memᴰ α S × List·Memᴰ i (f α))
       → ((i : ℕ) → List·Memᴰ i ys → (α : ℕ) × List·Memᴰ α S × List·Memᴰ i (g α))
-      → Same (flatMap (λ (α : ℕ). below d l (f α) ++ below d r (g α)) S) (below d l xs ++ below d r ys)
+      → SameMembers (flatMap (λ (α : ℕ). below d l (f α) ++ below d r (g α)) S) (below d l xs ++ below d r ys)
   unfolding below
   gathered left right left-has right-has y = (into, out-of)
     where
@@ -123,7 +123,7 @@ module _ (t : List Node) (ls : List ℕ) (o : ℕ) (l r : Side) where
   q : ℕ
   q = sideLen t r
 
-  if-same : (v : ℕ) → 1 ≤ v → v ≤ len (join ls o l r) → Same (dependenciesAt t (join ls o l r) if v) (needsAt t (join ls o l r) v if)
+  if-same : (v : ℕ) → 1 ≤ v → v ≤ len (join ls o l r) → SameMembers (dependenciesAt t (join ls o l r) if v) (needsAt t (join ls o l r) v if)
   unfolding dependenciesAt needsAt p q called
   if-same v h k =
       rw (ap (flatMap (called l r if)) (schema-if p q (len (join ls o l r)) v h k)
@@ -140,7 +140,7 @@ module _ (t : List Node) (ls : List ℕ) (o : ℕ) (l r : Side) where
       (v - i, splits-has v p q (v - i) (omega arith) (omega arith) (omega arith), positive-one (v - (v - i)) i (e .0) (omega arith))))
 
   only-if-same : (σ : ℕ) → suc σ ≤ len (join ls o l r)
-      → Same (dependenciesAt t (join ls o l r) only-if (suc σ)) (needsAt t (join ls o l r) (suc σ) only-if)
+      → SameMembers (dependenciesAt t (join ls o l r) only-if (suc σ)) (needsAt t (join ls o l r) (suc σ) only-if)
   unfolding dependenciesAt needsAt p q called
   only-if-same σ k =
       rw (ap (flatMap (called l r only-if)) (schema-only-if p q (len (join ls o l r)) σ k)
@@ -157,17 +157,17 @@ module _ (t : List Node) (ls : List ℕ) (o : ℕ) (l r : Side) where
       (λ i b. let e = named-mem only-if (suc σ) q p i (omega arith) b in
       (suc σ - i, splits-has σ p q (suc σ - i) (omega arith) (omega arith) (omega arith), within-one q (suc (σ - (suc σ - i))) i (e .1) (omega arith))))
 
-pub dependencies-needs : (t : List Node) (x : Request) → Right t x → Same (dependencies t x) (needs t x)
+pub dependencies-needs : (t : List Node) (x : Request) → Right t x → SameMembers (dependencies t x) (needs t x)
 unfolding dependencies dependenciesAt needs needsAt Right
 dependencies-needs t (request n v d) h = go (at t n) d v (h .1) (h .2)
   where
-    go : (a : Node) (d : Direction) (v : ℕ) → 1 ≤ v → v ≤ len a → Same (dependenciesAt t a d v) (needsAt t a v d)
+    go : (a : Node) (d : Direction) (v : ℕ) → 1 ≤ v → v ≤ len a → SameMembers (dependenciesAt t a d v) (needsAt t a v d)
     go (leaf a) d v low high = λ y. (λ m. m, λ m. m)
     go (join ls o l r) if v low high = if-same t ls o l r v low high
     go (join ls o l r) only-if zero low high = absurd (omega arith)
     go (join ls o l r) only-if (suc σ) low high = only-if-same t ls o l r σ high
 
 -- a request that meets the hypothesis
-pub met-dependencies : Same (dependencies three (request 4 2 only-if)) (needs three (request 4 2 only-if))
+pub met-dependencies : SameMembers (dependencies three (request 4 2 only-if)) (needs three (request 4 2 only-if))
 unfolding three at leaves len Right
 met-dependencies = dependencies-needs three (request 4 2 only-if) (omega arith, omega arith, omega arith)

@@ -9,7 +9,7 @@ use native.Mathlib.Omega.{arith}
 use lib.ListN.{length, getD, length-map, List·getD-map}
 use Rattle.pb.specs.Rules.{step, literalAxiom, literal}
 use Rattle.pb.specs.Sum.{Sum, normal, _·_, neg, variable, units, _≥_, keep}
-use Rattle.pb.proofs.Normal.{Clean, Same, Apart-clean, Off, Apart}
+use Rattle.pb.proofs.Normal.{Clean, SameSum, Apart-clean, Off, Apart}
 use Rattle.pb.proofs.Rules.{same-refl}
 use Rattle.record.specs.Steps.{Defined, derived, stepSum, written}
 use Rattle.totdb.specs.Nodes.{Node, len, leaves, range, at, output, outputs}
@@ -26,7 +26,7 @@ use Rattle.cert.proofs.Totalizer.{real-only-if, leaf-zero, leaf-only-if
 use Rattle.cert.proofs.WindowDerivations.{real-only-clean, real-if-clean, range-around}
 use Rattle.cert.proofs.WindowSums.{window-only-if-clean, window-if-clean}
 
-stands-step : {sums : ℕ → Option Sum} (n : ℕ) (x t : Sum) → sums n ≡ some (normal x) → Clean (x .terms) → Same x t → Stands sums (step n ∷ []) t
+stands-step : {sums : ℕ → Option Sum} (n : ℕ) (x t : Sum) → sums n ≡ some (normal x) → Clean (x .terms) → SameSum x t → Stands sums (step n ∷ []) t
 stands-step n x t e c h = stands-given (gives-step n x e) h (clean-room x c)
 
 -- ---- one literal
@@ -263,9 +263,9 @@ module _ (h : Head) (t : List Node) (s : State) (k : KnownIn h t s) where
         let ys = outputsAfter (at t n) f m (f + 1 + i) in
         let apart : Apart (units (xs ++ w ∷ ys)) =
         subst (λ (o : List ℕ). Apart (units o)) (around i l) (different-apart (outputs (at t n) f m) outs-different) in
-        let same : Same (windowOnlyIfOf xs w ys) (real-only-if (outputs (at t n) f m) (output (at t n) (f + suc i)) (suc i)) =
+        let same : SameSum (windowOnlyIfOf xs w ys) (real-only-if (outputs (at t n) f m) (output (at t n) (f + suc i)) (suc i)) =
         rw (around i l, value-is i)
-        (subst (λ (v : ℕ). Same (windowOnlyIfOf xs w ys) (real-only-if (xs ++ w ∷ ys) w v)) (omega (arith, before-length i))
+        (subst (λ (v : ℕ). SameSum (windowOnlyIfOf xs w ys) (real-only-if (xs ++ w ∷ ys) w v)) (omega (arith, before-length i))
         (window-only-if-real xs w ys)) in
         rw (only-if-above n f m i v k, z) (stands-step (fromIn (s .stored) (window n f m) + (2 * i + 1)) (windowOnlyIfOf xs w ys)
         (real-only-if (outputs (at t n) f m) (output (at t n) (f + suc i)) (suc i)) (only-at i l ∙ (unfold windowOnlyIfSum in refl))
@@ -289,9 +289,9 @@ module _ (h : Head) (t : List Node) (s : State) (k : KnownIn h t s) where
             let ys = outputsAfter (at t n) f m (f + 1 + i) in
             let apart : Apart (units (xs ++ w ∷ ys)) =
             subst (λ (o : List ℕ). Apart (units o)) (around i e) (different-apart (outputs (at t n) f m) outs-different) in
-            let same : Same (windowIfOf xs w ys) (real-if (outputs (at t n) f m) (output (at t n) (f + suc i)) (suc i)) =
+            let same : SameSum (windowIfOf xs w ys) (real-if (outputs (at t n) f m) (output (at t n) (f + suc i)) (suc i)) =
             rw (around i e, value-is i)
-            (subst (λ (v : ℕ). Same (windowIfOf xs w ys) (real-if (xs ++ w ∷ ys) w v)) (omega (arith, before-length i))
+            (subst (λ (v : ℕ). SameSum (windowIfOf xs w ys) (real-if (xs ++ w ∷ ys) w v)) (omega (arith, before-length i))
             (window-if-real xs w ys)) in
             rw z (stands-step (fromIn (s .stored) (window n f m) + 2 * i) (windowIfOf xs w ys)
             (real-if (outputs (at t n) f m) (output (at t n) (f + suc i)) (suc i)) (if-at i e ∙ (unfold windowIfSum in refl))

@@ -7,7 +7,7 @@ use native.Mathlib.Omega.{arith}
 use lib.ListN.{length, length-append}
 use Rattle.pb.specs.Rules.{addition, saturation, division, literalAxiom}
 use Rattle.pb.specs.Sum.{Sum, units, keep, neg, _≥_, coef, hit, _·_, variable, normal, clauseSum}
-use Rattle.pb.proofs.Normal.{weight, weight-keep, Same, normal-same}
+use Rattle.pb.proofs.Normal.{weight, weight-keep, SameSum, normal-same}
 use Rattle.pb.proofs.Rules.{coef-append, coef-negs, weight-append, weight-negs, weight-units, add-at, add-weight, add-bound, literals, divide-normal, divide-clause, same-swap, literal-part, saturate-clause, Apart-keep, Off-keep, Positive-keep, literals-keep, coef-units, saturate-normal, same-trans}
 use Rattle.pb.proofs.Terms.{coef-keep, coef-nil, coef-cons, hit-neg, neg-neg, variable-neg, hit-add}
 use Rattle.cert.specs.Definitions.{windowIfOf, windowOnlyIfOf}
@@ -61,7 +61,7 @@ pub ruleset levels = (add-weight, add-bound, if-weight, if-bound, only-if-weight
 
 -- Real if of v and real only-if of s, added: the leaves cancel.
 piece-same : (ls : List ℕ) (o p v s : ℕ) → 1 ≤ v → v < s → s ≤ length ls →
-    Same (addition (real-if ls o v) (real-only-if ls p s)) (((length ls + 1 - v) · o ∷ s · neg p ∷ []) ≥ s - v + 1)
+    SameSum (addition (real-if ls o v) (real-only-if ls p s)) (((length ls + 1 - v) · o ∷ s · neg p ∷ []) ≥ s - v + 1)
 unfolding weight
 piece-same ls o p v s h i j = record {
   at = λ (l : ℕ). simp ats (omega arith);
@@ -103,7 +103,7 @@ three a b c m n o h i j k =
 module _ (ls rs : List ℕ) (o p q v a b : ℕ) (ha : a ≤ length ls) (hb : b ≤ length rs) where
   -- If of v = a + b, left only-if of a, right only-if of b: the leaves cancel. A part with value 0 has no term.
   if-same : a + b ≡ v →
-      Same (addition (addition (real-if (ls ++ rs) o v) (real-only-if ls p a)) (real-only-if rs q b))
+      SameSum (addition (addition (real-if (ls ++ rs) o v) (real-only-if ls p a)) (real-only-if rs q b))
       (keep a (neg p) (keep b (neg q) ((length ls + length rs + 1 - v) · o ∷ [])) ≥ 1)
   unfolding weight
   if-same e = record {
@@ -112,7 +112,7 @@ module _ (ls rs : List ℕ) (o p q v a b : ℕ) (ha : a ≤ length ls) (hb : b �
   }
 
   pub if-clause : a + b ≡ v → (0 < a → variable p ≢ variable o) → (0 < b → variable q ≢ variable o) → (0 < a → 0 < b → variable p ≢ variable q) →
-      (s : Sum) → Same s (addition (addition (real-if (ls ++ rs) o v) (real-only-if ls p a)) (real-only-if rs q b)) →
+      (s : Sum) → SameSum s (addition (addition (real-if (ls ++ rs) o v) (real-only-if ls p a)) (real-only-if rs q b)) →
       normal (saturation s) ≡ normal (clauseSum (literal-part a (neg p) (literal-part b (neg q) (o ∷ []))))
   if-clause e i j k s h =
       ap normal (saturate-normal _ _ (normal-same _ _ (same-trans h (if-same e))))
@@ -120,7 +120,7 @@ module _ (ls rs : List ℕ) (o p q v a b : ℕ) (ha : a ≤ length ls) (hb : b �
 
   -- Only-if of v = a + b + 1, left if of a + 1, right if of b + 1. A part above its side's length has no term.
   only-if-same : a + b + 1 ≡ v →
-      Same (addition (addition (real-only-if (ls ++ rs) o v) (real-if ls p (a + 1))) (real-if rs q (b + 1)))
+      SameSum (addition (addition (real-only-if (ls ++ rs) o v) (real-if ls p (a + 1))) (real-if rs q (b + 1)))
       (keep (length ls - a) p (keep (length rs - b) q (v · neg o ∷ [])) ≥ 1)
   unfolding weight
   only-if-same e = record {
@@ -130,7 +130,7 @@ module _ (ls rs : List ℕ) (o p q v a b : ℕ) (ha : a ≤ length ls) (hb : b �
 
   pub only-if-clause : a + b + 1 ≡ v → (a < length ls → variable p ≢ variable o) → (b < length rs → variable q ≢ variable o)
       → (a < length ls → b < length rs → variable p ≢ variable q) →
-      (s : Sum) → Same s (addition (addition (real-only-if (ls ++ rs) o v) (real-if ls p (a + 1))) (real-if rs q (b + 1))) →
+      (s : Sum) → SameSum s (addition (addition (real-only-if (ls ++ rs) o v) (real-if ls p (a + 1))) (real-if rs q (b + 1))) →
       normal (saturation s) ≡ normal (clauseSum (literal-part (length ls - a) p (literal-part (length rs - b) q (neg o ∷ []))))
   only-if-clause e i j k s h =
       ap normal (saturate-normal _ _ (normal-same _ _ (same-trans h (only-if-same e))))
@@ -151,14 +151,14 @@ unfolding real-if literalAxiom
 leaf-two l o = refl
 
 -- At its own value a leaf contributes nothing.
-pub leaf-only-if : (l : ℕ) (s : Sum) → Same s (addition s (real-only-if (l ∷ []) l 1))
+pub leaf-only-if : (l : ℕ) (s : Sum) → SameSum s (addition s (real-only-if (l ∷ []) l 1))
 unfolding weight units
 leaf-only-if l s = record {
   at = λ (m : ℕ). simp ats (omega arith);
   level = simp levels (omega arith);
 }
 
-pub leaf-if : (l : ℕ) (s : Sum) → Same s (addition s (real-if (l ∷ []) l 1))
+pub leaf-if : (l : ℕ) (s : Sum) → SameSum s (addition s (real-if (l ∷ []) l 1))
 unfolding weight units
 leaf-if l s = record {
   at = λ (m : ℕ). simp ats (omega arith);
@@ -168,7 +168,7 @@ leaf-if l s = record {
 -- ---- windows: the outputs before the value's own, that one, and those after it
 
 -- A window's definition says the same as a real one over its own outputs: so its clauses are `if-clause` and `only-if-clause` too.
-pub window-if-real : (xs : List ℕ) (w : ℕ) (ys : List ℕ) → Same (windowIfOf xs w ys) (real-if (xs ++ w ∷ ys) w (length xs + 1))
+pub window-if-real : (xs : List ℕ) (w : ℕ) (ys : List ℕ) → SameSum (windowIfOf xs w ys) (real-if (xs ++ w ∷ ys) w (length xs + 1))
 unfolding weight units windowIfOf
 window-if-real xs w ys = record {
   at = λ (l : ℕ). simp (ats, coef-append, coef-negs, coef-units, length-append, gap, hit-add) (omega arith);
@@ -178,7 +178,7 @@ window-if-real xs w ys = record {
     gap : length xs + suc (length ys) + 1 - (length xs + 1) ≡ length ys + 1
     gap = omega arith
 
-pub window-only-if-real : (xs : List ℕ) (w : ℕ) (ys : List ℕ) → Same (windowOnlyIfOf xs w ys) (real-only-if (xs ++ w ∷ ys) w (length xs + 1))
+pub window-only-if-real : (xs : List ℕ) (w : ℕ) (ys : List ℕ) → SameSum (windowOnlyIfOf xs w ys) (real-only-if (xs ++ w ∷ ys) w (length xs + 1))
 unfolding weight units windowOnlyIfOf
 window-only-if-real xs w ys = record {
   at = λ (l : ℕ). simp (ats, coef-append, coef-units, hit-add) (omega arith);

@@ -8,7 +8,7 @@ use native.Mathlib.Omega.{arith}
 use lib.ListN.{length, length-append, length-map}
 use Rattle.pb.specs.Rules.{addition, literalAxiom}
 use Rattle.pb.specs.Sum.{Sum, _≥_, coef, units, clauseSum, hit, neg}
-use Rattle.pb.proofs.Normal.{Same, weight, Clean, Apart-clean, weight-keep, Apart}
+use Rattle.pb.proofs.Normal.{SameSum, weight, Clean, Apart-clean, weight-keep, Apart}
 use Rattle.pb.proofs.Rules.{coef-append, weight-append, same-trans, same-add, same-refl, same-sym, same-assoc, add-at, coef-negs, coef-units, add-weight, add-bound, weight-negs, weight-units, units-once}
 use Rattle.pb.proofs.Terms.{coef-nil, coef-cons, hit-zero, hit-add, hit-neg, coef-keep, neg-neg, hit-same, hit-cases, neg-self}
 use Rattle.cert.specs.Definitions.{windowIfOf, windowOnlyIfOf}
@@ -20,11 +20,11 @@ unfolding addition
 total [] = [] ≥ 0
 total (s ∷ ss) = addition s (total ss)
 
-pub same-nil : (s : Sum) → Same s (addition s (total []))
+pub same-nil : (s : Sum) → SameSum s (addition s (total []))
 unfolding total weight
 same-nil s = record { at = λ (l : ℕ). simp (coef-append, coef-nil) (omega arith); level = simp weight-append (omega arith) }
 
-pub total-append : (ss ts : List Sum) → Same (total (ss ++ ts)) (addition (total ss) (total ts))
+pub total-append : (ss ts : List Sum) → SameSum (total (ss ++ ts)) (addition (total ss) (total ts))
 unfolding total weight
 total-append [] ts = record { at = λ (l : ℕ). refl; level = omega arith }
 total-append (s ∷ ss) ts = same-trans (same-add (same-refl s) (total-append ss ts)) (same-sym (same-assoc s (total ss) (total ts)))
@@ -68,7 +68,7 @@ unfolding units
 negs-at out [] l = simp coef-nil
 negs-at out (x ∷ xs) l = simp (coef-cons, hit-neg) (omega (arith, negs-at out xs l))
 
-pub clause-swap : (a b : ℕ) → Same (clauseSum (a ∷ b ∷ [])) (clauseSum (b ∷ a ∷ []))
+pub clause-swap : (a b : ℕ) → SameSum (clauseSum (a ∷ b ∷ [])) (clauseSum (b ∷ a ∷ []))
 unfolding clauseSum weight
 clause-swap a b = record { at = λ (l : ℕ). simp (coef-cons, coef-nil) (omega arith); level = omega arith }
 
@@ -77,7 +77,7 @@ clause-swap a b = record { at = λ (l : ℕ). simp (coef-cons, coef-nil) (omega 
 -- Literal axioms and pieces added up: outputs `out`, value v.
 module _ (out : ℕ → ℕ) (v : ℕ) where
   pub if-total : (xs ys : List ℕ)
-      → Same (addition (total (map (λ s. literalAxiom (neg (out s))) xs)) (total (map (λ s. clauseSum (out v ∷ neg (out s) ∷ [])) ys)))
+      → SameSum (addition (total (map (λ s. literalAxiom (neg (out s))) xs)) (total (map (λ s. clauseSum (out v ∷ neg (out s) ∷ [])) ys)))
       (windowIfOf (map out xs) (out v) (map out ys))
   unfolding windowIfOf weight
   if-total xs ys = record {
@@ -112,7 +112,7 @@ module _ (out : ℕ → ℕ) (v : ℕ) where
   }
 
   pub only-if-total : (xs ys : List ℕ)
-      → Same (addition (total (map (λ s. clauseSum (neg (out v) ∷ out s ∷ [])) xs)) (total (map (λ s. literalAxiom (out s)) ys)))
+      → SameSum (addition (total (map (λ s. clauseSum (neg (out v) ∷ out s ∷ [])) xs)) (total (map (λ s. literalAxiom (out s)) ys)))
       (windowOnlyIfOf (map out xs) (out v) (map out ys))
   unfolding windowOnlyIfOf weight
   only-if-total xs ys = record {

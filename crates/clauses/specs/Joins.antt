@@ -4,7 +4,7 @@ use mathlib.Core.Bool.{Bool, true, false, not}
 use mathlib.Core.List.{List, [], _∷_, _++_}
 use Prim.Native.Nat.{ℕ, _+_, _-_, _^_, _≤_, _<_}
 use lib.ListN.{length}
-use Rattle.sizes.specs.Sizes.{mostNodes, width, storeAt}
+use Rattle.sizes.specs.Sizes.{mostNodes, width, storeRow, storeAt}
 use Rattle.pb.specs.Sum.{neg}
 use Rattle.totdb.specs.Nodes.{Node, at, len, output}
 use Rattle.totdb.specs.declared.Side.{Side}
@@ -44,15 +44,15 @@ clauseOf t x v i j b = record {
 }
 
 -- The values that a clause has of a side of length p: in if clauses from 0, in only-if clauses from 1 to one above the length.
-pub record Within (b : Bool) (p i : ℕ) : Type 0 where
+pub record ClauseValue (b : Bool) (p i : ℕ) : Type 0 where
   pub above : b ≡ true → 1 ≤ i
   pub below : b ≡ false → i ≤ p
   pub top : i ≤ p + 1
 
 pub record ClauseIn (t : List Node) (x : Join) (v i j : ℕ) (b : Bool) : Type 0 where
   pub of : JoinIn t x v
-  pub left : Within b (x .left .len) i
-  pub right : Within b (x .right .len) j
+  pub left : ClauseValue b (x .left .len) i
+  pub right : ClauseValue b (x .right .len) j
 
 -- ---- bounds, where the nodes are not lent
 
@@ -67,16 +67,16 @@ pub record SideReach (s : Shown) (a : ℕ) : Type 0 where
 -- Its definitions have places in the store.
 pub record SideRoom (store : List ℕ) (s : Shown) (a : ℕ) : Type 0 where
   pub reach : SideReach s a
-  pub row : storeAt (s .side .node) + 134 ≤ length store
+  pub row : storeAt (s .side .node) + storeRow ≤ length store
   pub window : s .window + 1 < length store
 
 pub record ClauseReach (store : List ℕ) (x : Join) (v i j : ℕ) (b : Bool) : Type 0 where
   pub node : x .node < mostNodes
-  pub row : storeAt (x .node) + 134 ≤ length store
+  pub row : storeAt (x .node) + storeRow ≤ length store
   pub first : x .first ≤ 2 ^ 30
   pub above : 1 ≤ v
   pub within : v ≤ width
   pub left : SideRoom store (x .left) i
   pub right : SideRoom store (x .right) j
-  pub left-in : Within b (x .left .len) i
-  pub right-in : Within b (x .right .len) j
+  pub left-in : ClauseValue b (x .left .len) i
+  pub right-in : ClauseValue b (x .right .len) j

@@ -10,7 +10,7 @@ ghost use mathlib.Core.Bool.{Bool};
 ghost use mathlib.Core.List.{List};
 ghost use Prim.Native.Nat.{ℕ, _≤_, _<_, _+_, _-_, _*_, _^_, min};
 ghost use lib.ListN.{length, getD};
-ghost use Rattle.sizes.specs.Sizes.{mostNodes, width, storeAt};
+ghost use Rattle.sizes.specs.Sizes.{mostNodes, width, storeRow, storeAt};
 ghost use Rattle.memo.specs.Visit.{each};
 ghost use Rattle.totdb.specs.Nodes.{Node, at, output};
 ghost use Rattle.cert.specs.Definitions.{sideDef, Key, oneDef, real};
@@ -23,7 +23,7 @@ ghost use Rattle.define.specs.Store.{direction};
 ghost use Rattle.define.specs.Represents.{memory, Represented, Simulates};
 ghost use Rattle.define.specs.Lookups.{SideIn, RealOf};
 ghost use Rattle.clauses.specs.Firsts.{realStep, windowStep, SideRead, hasFirst, sideStored, sidesStored};
-ghost use Rattle.clauses.specs.Joins.{JoinIn, ClauseIn, SideReach, SideRoom, ClauseReach, Within, clauseOf, clausePart, lastLiteral};
+ghost use Rattle.clauses.specs.Joins.{JoinIn, ClauseIn, SideReach, SideRoom, ClauseReach, ClauseValue, clauseOf, clausePart, lastLiteral};
 
 // A leaf, or a window of length 1: its one literal, at 0, at its own value and above.
 fn one_definition(literal: u32, value: usize) -> SemDefinition
@@ -40,7 +40,7 @@ fn one_definition(literal: u32, value: usize) -> SemDefinition
 
 // The real definition of a value, which is stored: only-if is the second step, at value 0 the one.
 fn real_definition(store: &[u32], node: usize, value: usize, only_if: bool) -> SemDefinition
-    requires { ⌜ (node < mostNodes) × (storeAt node + 134 ≤ length (now store)) × (value ≤ width + 1) ⌝ }
+    requires { ⌜ (node < mostNodes) × (storeAt node + storeRow ≤ length (now store)) × (value ≤ width + 1) ⌝ }
     ensures { λ r. ⌜ r ≡ Step (realStep (getD (now (store .entry)) (storeAt node + value) 0) value «only_if») ⌝ }
 {
     let first = store[define::store_at(node) + value];
@@ -97,7 +97,7 @@ fn side_definition(store: &[u32], s: Shown, a: usize, only_if: bool) -> SemDefin
 // The part of a clause at the a-th literal of a side: in an if clause negated, absent at 0; in an only-if
 // clause absent above the side's length.
 fn part(s: Shown, a: usize, only_if: bool) -> Part
-    requires { ⌜ SideReach s a × Within «only_if» (s .len) a ⌝ }
+    requires { ⌜ SideReach s a × ClauseValue «only_if» (s .len) a ⌝ }
     requires { ⌜ ((t : List Node) × Bounded t × SideIn t s a) ⌝ }
     ensures { λ r. ⌜ ((t : List Node) → Bounded t → SideIn t s a
         → Rattle.derivation.specs.Operands.part r ≡ clausePart «only_if» t (s .side) a) ⌝ }

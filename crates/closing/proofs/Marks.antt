@@ -13,7 +13,7 @@ use Rattle.cert.specs.State.{Stored, storedSteps}
 use Rattle.define.specs.Store.{slot}
 use Rattle.define.proofs.Entries.{entry, stored-more, stored-length}
 use Rattle.define.proofs.Slots.{slot-inside}
-use Rattle.closing.specs.Closing.{Listed, SlotOf}
+use Rattle.closing.specs.Closing.{MarkedKeys, SlotOf}
 
 abbrev none : Stored
 none = entry (real 0 0) 0
@@ -31,7 +31,7 @@ at-map f (a ∷ l) (suc i) d e h = at-map f l i d e (omega arith)
 abbrev pub stored-at : List Stored → ℕ → Stored
 stored-at es i = getD es i none
 
-module _ {ns store : List ℕ} {marks : ℕ} {t : List Node} {es : List Stored} (l : Listed ns store marks t es) where
+module _ {ns store : List ℕ} {marks : ℕ} {t : List Node} {es : List Stored} (l : MarkedKeys ns store marks t es) where
   pub mark-there : marks ≤ length store
   mark-there = omega (arith, l .few, l .room)
 

@@ -17,7 +17,7 @@ pub record SlotOf (ns : List ℕ) (t : List Node) (k : Key) (p : ℕ) : Type 0 w
   pub is : p ≡ slot t k
 
 -- The store has the definitions es over the nodes t, each with its first step.
-pub record Listed (ns store : List ℕ) (marks : ℕ) (t : List Node) (es : List Stored) : Type 0 where
+pub record MarkedKeys (ns store : List ℕ) (marks : ℕ) (t : List Node) (es : List Stored) : Type 0 where
   pub table : Table ns t
   pub few : marks ≤ trail
   pub room : storeAt (length t) ≤ length store

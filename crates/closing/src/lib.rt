@@ -8,7 +8,7 @@ ghost use Rattle.record.specs.Writing.{buffer, Puts};
 ghost use Rattle.totdb.specs.Nodes.{Node, range};
 ghost use Rattle.cert.specs.Definitions.{Key, keyRecords};
 ghost use Rattle.cert.specs.State.{Stored, storedSteps};
-ghost use Rattle.closing.specs.Closing.{Listed, SlotOf};
+ghost use Rattle.closing.specs.Closing.{MarkedKeys, SlotOf};
 
 // How many steps the definition at a place has.
 fn count_steps(nodes: &[u32], place: usize) -> u32
@@ -33,8 +33,8 @@ fn count_steps(nodes: &[u32], place: usize) -> u32
 
 // How many steps the first `marks` definitions have.
 fn count_stored(nodes: &[u32], store: &[u32], marks: usize) -> u32
-    requires { ⌜ ((t : List Node) × (es : List Stored) × Listed (now nodes) (now store) marks t es) ⌝ }
-    ensures { λ r. ⌜ ((t : List Node) (es : List Stored) → Listed (now (nodes .entry)) (now (store .entry)) marks t es → r ≡ length (storedSteps t es)) ⌝ }
+    requires { ⌜ ((t : List Node) × (es : List Stored) × MarkedKeys (now nodes) (now store) marks t es) ⌝ }
+    ensures { λ r. ⌜ ((t : List Node) (es : List Stored) → MarkedKeys (now (nodes .entry)) (now (store .entry)) marks t es → r ≡ length (storedSteps t es)) ⌝ }
 {
     let mut n = 0u32;
     for i in 0..marks {
@@ -57,8 +57,8 @@ fn put_steps(log: &mut [u8], at: usize, first: u32, count: u32) -> usize
 
 // The steps of the first `marks` definitions: they were stored in this order.
 fn put_stored(nodes: &[u32], store: &[u32], log: &mut [u8], at: usize, marks: usize) -> usize
-    requires { ⌜ ((t : List Node) × (es : List Stored) × Listed (now nodes) (now store) marks t es) ⌝ }
-    ensures { λ r. ⌜ ((t : List Node) (es : List Stored) → Listed (now (nodes .entry)) (now (store .entry)) marks t es
+    requires { ⌜ ((t : List Node) × (es : List Stored) × MarkedKeys (now nodes) (now store) marks t es) ⌝ }
+    ensures { λ r. ⌜ ((t : List Node) (es : List Stored) → MarkedKeys (now (nodes .entry)) (now (store .entry)) marks t es
         → Puts (buffer (now (log .entry)) at) (storedSteps t es) (buffer (now (log .exit)) r)) ⌝ }
 {
     let mut end = at;
@@ -71,8 +71,8 @@ fn put_stored(nodes: &[u32], store: &[u32], log: &mut [u8], at: usize, marks: us
 
 // The record.
 pub fn put_deletion(nodes: &[u32], store: &[u32], log: &mut [u8], at: usize, marks: usize) -> usize
-    requires { ⌜ ((t : List Node) × (es : List Stored) × Listed (now nodes) (now store) marks t es) ⌝ }
-    ensures { λ r. ⌜ ((t : List Node) (es : List Stored) → Listed (now (nodes .entry)) (now (store .entry)) marks t es
+    requires { ⌜ ((t : List Node) × (es : List Stored) × MarkedKeys (now nodes) (now store) marks t es) ⌝ }
+    ensures { λ r. ⌜ ((t : List Node) (es : List Stored) → MarkedKeys (now (nodes .entry)) (now (store .entry)) marks t es
         → Puts (buffer (now (log .entry)) at) (numbers (deletion (storedSteps t es))) (buffer (now (log .exit)) r)) ⌝ }
 {
     let after_kind = record::put(log, at, 4);

@@ -23,15 +23,15 @@ use Rattle.player.proofs.Sound.{JoinFits, join-fits, sideLeaves-length}
 use Rattle.player.proofs.Tree.{few-nodes, few-variables, leafCount-leaf, leafCount-join, treed-act}
 use Rattle.player.proofs.Refusal.{play-goes}
 use Rattle.commands.specs.Standing.{Standing, Room, Played, went}
-use Rattle.commands.specs.declared.Ended.{Ended}
+use Rattle.commands.specs.declared.CommandEnd.{CommandEnd}
 use Rattle.commands.specs.declared.Totals.{Totals}
-use Rattle.commands.proofs.Ends.{fits}
+use Rattle.commands.proofs.CommandEnds.{fits}
 use Rattle.commands.proofs.NodeMore.{exact-make}
 
 module _ {h : Head} {c : ℕ} {ns store log : List ℕ} {z : Totals} {s : State} (st : Standing h c ns (memory store log (z .out)) z s) where
   -- A command that makes the node a.
   module _ (k : Command) (asked : firstNo (questions h (s .nodes) k) ≡ 0) (a : Node) (i : ℕ) (is : act k s ≡ make a i s)
-      (room : Room ns store (z .nodes)) (ns′ : List ℕ) (table : Table ns′ (s .nodes ++ (a ∷ []))) (e : Ended) (number : e .number ≡ 0)
+      (room : Room ns store (z .nodes)) (ns′ : List ℕ) (table : Table ns′ (s .nodes ++ (a ∷ []))) (e : CommandEnd) (number : e .number ≡ 0)
       (out : e .totals .out ≡ z .out) (nodes : e .totals .nodes ≡ length (s .nodes ++ (a ∷ [])))
       (leaves : e .totals .leaves ≡ leafCount (s .nodes ++ (a ∷ []))) (next : e .totals .variable ≡ s .next-variable + i) where
     after : Standing h c ns′ (memory store log (z .out)) (e .totals) (make a i s)
@@ -59,7 +59,7 @@ module _ {h : Head} {c : ℕ} {ns store log : List ℕ} {z : Totals} {s : State}
   -- ---- a leaf
 
   -- A leaf that is there already.
-  pub leaf-there : (l : ℕ) → firstNo (questions h (s .nodes) (Command.Leaf l)) ≡ 0 → known (s .nodes) l ≡ true → (e : Ended) → e .number ≡ 0
+  pub leaf-there : (l : ℕ) → firstNo (questions h (s .nodes) (Command.Leaf l)) ≡ 0 → known (s .nodes) l ≡ true → (e : CommandEnd) → e .number ≡ 0
       → e .totals ≡ z → Played h c (Command.Leaf l) s ns store log e
   leaf-there l asked there e a b =
       let same : act (Command.Leaf l) s ≡ s = unfold act in rw (there, act) in
@@ -79,7 +79,7 @@ module _ {h : Head} {c : ℕ} {ns store log : List ℕ} {z : Totals} {s : State}
   }
 
   pub leaf-made : (l : ℕ) → firstNo (questions h (s .nodes) (Command.Leaf l)) ≡ 0 → known (s .nodes) l ≡ false
-      → Room ns store (z .nodes) → (ns′ : List ℕ) → Table ns′ (s .nodes ++ (leaf l ∷ [])) → (e : Ended) → e .number ≡ 0 → e .totals .out ≡ z .out
+      → Room ns store (z .nodes) → (ns′ : List ℕ) → Table ns′ (s .nodes ++ (leaf l ∷ [])) → (e : CommandEnd) → e .number ≡ 0 → e .totals .out ≡ z .out
       → e .totals .nodes ≡ z .nodes + 1 → e .totals .leaves ≡ z .leaves + 1 → e .totals .variable ≡ z .variable
       → Played h c (Command.Leaf l) s ns′ store log e
   leaf-made l asked new room ns′ table e a b p q r =
@@ -91,7 +91,7 @@ module _ {h : Head} {c : ℕ} {ns store log : List ℕ} {z : Totals} {s : State}
 
   pub join-made : (l r : Side) → firstNo (questions h (s .nodes) (Command.Join l r)) ≡ 0 → Room ns store (z .nodes)
       → (ns′ : List ℕ) → Table ns′ (s .nodes ++ (joined (s .nodes) (z .variable) l r ∷ []))
-      → (e : Ended) → e .number ≡ 0 → e .totals .out ≡ z .out → e .totals .nodes ≡ z .nodes + 1 → e .totals .leaves ≡ z .leaves
+      → (e : CommandEnd) → e .number ≡ 0 → e .totals .out ≡ z .out → e .totals .nodes ≡ z .nodes + 1 → e .totals .leaves ≡ z .leaves
       → e .totals .variable ≡ z .variable + len (joined (s .nodes) (z .variable) l r)
       → Played h c (Command.Join l r) s ns′ store log e
   join-made l r asked room ns′ table e a b p q v =

@@ -14,15 +14,15 @@ use Rattle.cert.proofs.Serving.{clauses-append}
 use Rattle.define.specs.Represents.{memory, Exact, Represents, exact, over, Represented, Simulates}
 use Rattle.define.specs.declared.Out.{Out}
 use Rattle.define.proofs.Written.{Took, fits, past, took}
-use Rattle.closing.specs.Closing.{Listed}
+use Rattle.closing.specs.Closing.{MarkedKeys}
 use Rattle.request.specs.Asked.{RequestIn}
 use Rattle.player.specs.Player.{firstNo, questions, act, delete}
 use Rattle.player.specs.declared.Command.{Command}
 use Rattle.player.proofs.Sound.{RequestFits, request-fits, requests-asked, serve-nodes}
-use Rattle.commands.specs.Standing.{Standing, Played, endedAs}
-use Rattle.commands.specs.declared.Ended.{Ended}
+use Rattle.commands.specs.Standing.{Standing, Played, endOf}
+use Rattle.commands.specs.declared.CommandEnd.{CommandEnd}
 use Rattle.commands.specs.declared.Totals.{Totals}
-use Rattle.commands.proofs.Ends.{ends}
+use Rattle.commands.proofs.CommandEnds.{ends}
 
 -- ---- a close
 
@@ -92,7 +92,7 @@ module _ {h : Head} {c : ℕ} {ns store log : List ℕ} {z : Totals} {s : State}
 
     pub requested : (store′ log′ : List ℕ) (o : Out)
         → Simulates ns (λ t s. RequestIn t n v) (λ t u. serve t (requests n v d) u) (memory store log (z .out)) (memory store′ log′ o)
-        → (e : Ended) → e ≡ endedAs (length log′) z o → Played h c (Command.Request n v d) s ns store′ log′ e
+        → (e : CommandEnd) → e ≡ endOf (length log′) z o → Played h c (Command.Request n v d) s ns store′ log′ e
     unfolding act
     requested store′ log′ o sim e is =
         let t = s .nodes in
@@ -100,14 +100,14 @@ module _ {h : Head} {c : ℕ} {ns store log : List ℕ} {z : Totals} {s : State}
         ends st (Command.Request n v d) asked (k .0) (k .1) store′ log′ o
         (sim .does c t s (st .table) request-in (exact (st .exact))) (sim .onward) e is
 
-  pub listed : Listed ns store (z .out .marks) (s .nodes) (s .stored)
+  pub listed : MarkedKeys ns store (z .out .marks) (s .nodes) (s .stored)
   listed =
       let x = st .exact in
       record {
         table = st .table;
         few =
             let l = length (bytes (s .log)) in
-            omega (arith, x .stores .trail .count, x .consistent .few-stored, x .small, Rattle.commands.proofs.Ends.fits st);
+            omega (arith, x .stores .trail .count, x .consistent .few-stored, x .small, Rattle.commands.proofs.CommandEnds.fits st);
         room = x .stores .room;
         trail = x .stores .trail;
         firsts = x .stores .firsts;
@@ -120,7 +120,7 @@ module _ {h : Head} {c : ℕ} {ns store log : List ℕ} {z : Totals} {s : State}
           x .consistent .few,
           x .small,
           two-bytes (s .log),
-          Rattle.commands.proofs.Ends.fits st,
+          Rattle.commands.proofs.CommandEnds.fits st,
         );
       }
 
@@ -129,7 +129,7 @@ module _ {h : Head} {c : ℕ} {ns store log : List ℕ} {z : Totals} {s : State}
   close-asked = refl
 
   pub close-ends : (log′ : List ℕ) (o : Out) → Puts (buffer log (z .out .at)) (numbers (deletion (storedSteps (s .nodes) (s .stored)))) (buffer log′ (o .at))
-      → o .step ≡ z .out .step → o .marks ≡ z .out .marks → o .clauses ≡ z .out .clauses → (e : Ended) → e ≡ endedAs (length log′) z o
+      → o .step ≡ z .out .step → o .marks ≡ z .out .marks → o .clauses ≡ z .out .clauses → (e : CommandEnd) → e ≡ endOf (length log′) z o
       → Played h c Command.Close s ns store log′ e
   unfolding act
   close-ends log′ o wrote step marks count e is =

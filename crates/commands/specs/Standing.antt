@@ -15,7 +15,7 @@ use Rattle.define.specs.declared.Out.{Out}
 use Rattle.player.specs.Formed.{Formed}
 use Rattle.player.specs.Player.{play, accepted, refused}
 use Rattle.player.specs.declared.Command.{Command}
-use Rattle.commands.specs.declared.Ended.{Ended}
+use Rattle.commands.specs.declared.CommandEnd.{CommandEnd}
 use Rattle.commands.specs.declared.Totals.{Totals}
 
 -- The tables, the log of c bytes and the totals represent the state s, which the head h led to.
@@ -37,7 +37,7 @@ pub record Reported (c : ℕ) (log : List ℕ) (z : Totals) (s : State) : Type 0
   pub nodes : z .nodes ≡ length (s .nodes)
 
 -- What a command comes to that is put in the state s. Where it is refused the tables are left open: play ends there.
-pub data Played (h : Head) (c : ℕ) (k : Command) (s : State) (ns store log : List ℕ) (e : Ended) : Type 0 where
+pub data Played (h : Head) (c : ℕ) (k : Command) (s : State) (ns store log : List ℕ) (e : CommandEnd) : Type 0 where
   went : (u : State) → play h c k s ≡ accepted u → e .number ≡ 0
       → Standing h c ns (memory store log (e .totals .out)) (e .totals) u → Played h c k s ns store log e
   stopped : (n : ℕ) → play h c k s ≡ refused n → e .number ≡ n → Reported c log (e .totals) s → Played h c k s ns store log e
@@ -58,7 +58,7 @@ pub record Ready (ns store log : List ℕ) (z : Totals) : Type 0 where
 -- ---- the end of a command
 
 -- A command that began with the totals z and wrote up to o, into a log of n bytes. Where something did not fit nothing is changed.
-unfoldable pub endedAs : ℕ → Totals → Out → Ended
-endedAs n z o =
+unfoldable pub endOf : ℕ → Totals → Out → CommandEnd
+endOf n z o =
     cond (ltb n (o .at)) (record { number = 14; totals = z })
     (record { number = 0; totals = record { out = o; nodes = z .nodes; leaves = z .leaves; variable = z .variable } })

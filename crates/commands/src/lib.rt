@@ -12,7 +12,7 @@ ghost use Rattle.rows.specs.Rows.{Table};
 ghost use Rattle.define.specs.Represents.{memory};
 ghost use Rattle.player.specs.Player.{firstNo, fitsOver, questions};
 ghost use Rattle.player.specs.declared.Command.{Command};
-ghost use Rattle.commands.specs.Standing.{Standing, Room, Played, Ready, endedAs};
+ghost use Rattle.commands.specs.Standing.{Standing, Room, Played, Ready, endOf};
 
 // How far the play is: the writing, the nodes, the leaves among them, and the next variable.
 pub struct Totals {
@@ -23,38 +23,38 @@ pub struct Totals {
 }
 
 // The number of the question that a command fails, 0 for none, and the totals after it.
-pub struct Ended {
+pub struct CommandEnd {
     pub number: u32,
     pub totals: Totals,
 }
 
 // Questions 6 and 7, then a new leaf.
-fn leaf(nodes: &mut [u32], t: Totals, first_variable: u32, literal: u32) -> Ended
+fn leaf(nodes: &mut [u32], t: Totals, first_variable: u32, literal: u32) -> CommandEnd
     requires { ⌜ ((store log : List ℕ) × (r : Ready (now nodes) store log t) × («first_variable» ≡ r .head .variable)) ⌝ }
     ensures { λ r. ⌜ ((h : Head) (c : ℕ) (store log : List ℕ) (s : State) → «first_variable» ≡ h .variable
         → Standing h c (now (nodes .entry)) (memory store log (t .out)) t s → Room (now (nodes .entry)) store (t .nodes)
         → Played h c (Command.Leaf literal) s (now (nodes .exit)) store log r) ⌝ }
 {
     if first_variable <= literal / 2 {
-        return Ended {
+        return CommandEnd {
             number: 6,
             totals: t,
         };
     }
     if nodes::known(nodes, t.leaves, literal) {
-        return Ended {
+        return CommandEnd {
             number: 0,
             totals: t,
         };
     }
     if nodes::known(nodes, t.leaves, pb::neg(literal)) {
-        return Ended {
+        return CommandEnd {
             number: 7,
             totals: t,
         };
     }
     if sizes::MOST_LEAVES <= t.leaves {
-        return Ended {
+        return CommandEnd {
             number: 7,
             totals: t,
         };
@@ -67,7 +67,7 @@ fn leaf(nodes: &mut [u32], t: Totals, first_variable: u32, literal: u32) -> Ende
         leaves: t.leaves + 1,
         variable: t.variable,
     };
-    Ended {
+    CommandEnd {
         number: 0,
         totals: after,
     }
@@ -122,14 +122,14 @@ fn ask_join(nodes: &[u32], count: usize, l: Side, r: Side) -> u32
 }
 
 // Questions 8 to 10, then a new join.
-fn join(nodes: &mut [u32], t: Totals, l: Side, r: Side) -> Ended
+fn join(nodes: &mut [u32], t: Totals, l: Side, r: Side) -> CommandEnd
     requires { ⌜ ((store log : List ℕ) × Ready (now nodes) store log t) ⌝ }
     ensures { λ e. ⌜ ((h : Head) (c : ℕ) (store log : List ℕ) (s : State) → Standing h c (now (nodes .entry)) (memory store log (t .out)) t s
         → Room (now (nodes .entry)) store (t .nodes) → Played h c (Command.Join l r) s (now (nodes .exit)) store log e) ⌝ }
 {
     let number = ask_join(nodes, t.nodes, l, r);
     if number != 0 {
-        return Ended {
+        return CommandEnd {
             number: number,
             totals: t,
         };
@@ -142,18 +142,18 @@ fn join(nodes: &mut [u32], t: Totals, l: Side, r: Side) -> Ended
         leaves: t.leaves,
         variable: t.variable + len as u32,
     };
-    Ended {
+    CommandEnd {
         number: 0,
         totals: after,
     }
 }
 
 // Question 14, of a command that began with t and wrote up to o, into a log of so many bytes.
-fn end(length: usize, t: Totals, o: Out) -> Ended
-    ensures { λ r. ⌜ r ≡ endedAs length t o ⌝ }
+fn end(length: usize, t: Totals, o: Out) -> CommandEnd
+    ensures { λ r. ⌜ r ≡ endOf length t o ⌝ }
 {
     if length < o.at {
-        return Ended {
+        return CommandEnd {
             number: 14,
             totals: t,
         };
@@ -164,7 +164,7 @@ fn end(length: usize, t: Totals, o: Out) -> Ended
         leaves: t.leaves,
         variable: t.variable,
     };
-    Ended {
+    CommandEnd {
         number: 0,
         totals: after,
     }
@@ -203,7 +203,7 @@ fn request(
     node: usize,
     value: usize,
     direction: u32,
-) -> Ended
+) -> CommandEnd
     requires { ⌜ Ready (now nodes) (now store) (now log) t ⌝ }
     ensures { λ r. ⌜ ((h : Head) (c : ℕ) (s : State)
         → Standing h c (now (nodes .entry)) (memory (now (store .entry)) (now (log .entry)) (t .out)) t s
@@ -211,7 +211,7 @@ fn request(
 {
     let number = ask_request(nodes, t.nodes, node, value, direction);
     if number != 0 {
-        return Ended {
+        return CommandEnd {
             number: number,
             totals: t,
         };
@@ -222,7 +222,7 @@ fn request(
 }
 
 // The deletion of every stored definition's steps, ascending, and question 14.
-fn close(nodes: &[u32], store: &[u32], log: &mut [u8], t: Totals) -> Ended
+fn close(nodes: &[u32], store: &[u32], log: &mut [u8], t: Totals) -> CommandEnd
     requires { ⌜ Ready (now nodes) (now store) (now log) t ⌝ }
     ensures { λ r. ⌜ ((h : Head) (c : ℕ) (s : State)
         → Standing h c (now (nodes .entry)) (memory (now (store .entry)) (now (log .entry)) (t .out)) t s
@@ -248,7 +248,7 @@ pub fn command(
     t: Totals,
     first_variable: u32,
     k: Command,
-) -> Ended
+) -> CommandEnd
     requires { ⌜ ((r : Ready (now nodes) (now store) (now log) t) × («first_variable» ≡ r .head .variable)) ⌝ }
     ensures { λ r. ⌜ ((h : Head) (c : ℕ) (s : State) → «first_variable» ≡ h .variable
         → Standing h c (now (nodes .entry)) (memory (now (store .entry)) (now (log .entry)) (t .out)) t s

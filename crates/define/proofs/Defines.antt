@@ -3,14 +3,14 @@ use mathlib.Core.Path.{_≡_, refl, sym, ap, subst, _∙_}
 use mathlib.Core.Bool.{Bool, true, false, cond}
 use mathlib.Core.Logic.{⊎-elim}
 use mathlib.Core.List.{List, [], _∷_, _++_, map, map-append, flatMap, List·Memᴰ, List·Memᴰ·append-cases, List·Memᴰ·eq-of-singleton, Memᴰ·map}
-use Prim.Native.Nat.{ℕ, _+_, _≤_, _<_}
+use Prim.Native.Nat.{ℕ, _+_, _*_, _≤_, _<_}
 use native.Mathlib.Numerals.{add-one}
 use native.Mathlib.Omega.{arith}
 use borrow.Author.Tests.{lt-ltb}
 use lib.Dec.{ltb}
 use lib.ListN.{length, getD, set, length-set, length-append, length-map}
 use lib.Seq.{getD-set-same, getD-set-other, take-set-le, take-suc-set}
-use Rattle.sizes.specs.Sizes.{trail, stepStop, heldAt}
+use Rattle.sizes.specs.Sizes.{mostBytes, trail, stepStop, heldAt}
 use Rattle.pb.specs.Sum.{neg}
 use Rattle.record.specs.Record.{Record, numbers, steps, bytes}
 use Rattle.record.specs.Writing.{buffer, content, written, Puts}
@@ -26,7 +26,7 @@ use Rattle.cert.proofs.Serving.{define-keys, define-clauses}
 use Rattle.rows.specs.Rows.{Bounded}
 use Rattle.derivation.specs.Operands.{stepAfter}
 use Rattle.define.specs.declared.Out.{Out}
-use Rattle.define.specs.Store.{Used, slot, Firsts, Trail, Holds, Blank, kept, Kept, counters, keyStored}
+use Rattle.define.specs.Store.{Used, slot, Firsts, Trail, HeldFlags, Blank, changed, Changed, counters, keyStored}
 use Rattle.define.specs.Represents.{Memory, memory, Consistent, Exact, Represents, exact, over}
 use Rattle.define.proofs.Entries.{entry, from-same, from-other}
 use Rattle.define.proofs.Reals.{zero-bytes, real-bytes}
@@ -55,7 +55,7 @@ key-bytes t b f (window n o m) u =
 -- ---- the memory after
 
 -- What is written fits in the log, so the steps are few.
-pub few-steps : {c : ℕ} {t : List Node} {m : Memory} {s : State} → Exact c t m s → steps (s .log) ≤ 32768
+pub few-steps : {c : ℕ} {t : List Node} {m : Memory} {s : State} → Exact c t m s → 2 * steps (s .log) ≤ mostBytes
 few-steps {m = m} {s = s} ex =
     let l = ex .logged in
     omega (arith, ex .small, l .size, content-length (m .log) (m .out .at) (l .is), not-over (m .log) (m .out .at) (l .is), two-bytes (s .log))
@@ -80,22 +80,22 @@ step-after n k h = rw (lt-ltb n stepStop h)
 
 -- ---- `keyStored`, by whether the trail has room
 
-module _ (p a n : ℕ) (s : Kept) where
-  stored-marked : s .out .marks < trail → keyStored p a n s ≡ kept (set (set (s .store) p (s .out .step)) (s .out .marks) p)
+module _ (p a n : ℕ) (s : Changed) where
+  stored-marked : s .out .marks < trail → keyStored p a n s ≡ changed (set (set (s .store) p (s .out .step)) (s .out .marks) p)
       (counters a (s .out .marks + 1) (stepAfter (s .out .step) n) (s .out .clauses))
   unfolding keyStored
   stored-marked h = rw (lt-ltb (s .out .marks) trail h)
 
-  by-room : (P : Kept → Type 0)
-      → P (kept (set (set (s .store) p (s .out .step)) (s .out .marks) p) (counters a (s .out .marks + 1) (stepAfter (s .out .step) n) (s .out .clauses)))
-      → P (kept (set (s .store) p (s .out .step)) (counters a (s .out .marks) (stepAfter (s .out .step) n) (s .out .clauses)))
+  by-room : (P : Changed → Type 0)
+      → P (changed (set (set (s .store) p (s .out .step)) (s .out .marks) p) (counters a (s .out .marks + 1) (stepAfter (s .out .step) n) (s .out .clauses)))
+      → P (changed (set (s .store) p (s .out .step)) (counters a (s .out .marks) (stepAfter (s .out .step) n) (s .out .clauses)))
       → P (keyStored p a n s)
   unfolding keyStored
   by-room P x y = go (ltb (s .out .marks) trail)
     where
       go : (q : Bool) → P (cond q
-          (kept (set (set (s .store) p (s .out .step)) (s .out .marks) p) (counters a (s .out .marks + 1) (stepAfter (s .out .step) n) (s .out .clauses)))
-          (kept (set (s .store) p (s .out .step)) (counters a (s .out .marks) (stepAfter (s .out .step) n) (s .out .clauses))))
+          (changed (set (set (s .store) p (s .out .step)) (s .out .marks) p) (counters a (s .out .marks + 1) (stepAfter (s .out .step) n) (s .out .clauses)))
+          (changed (set (s .store) p (s .out .step)) (counters a (s .out .marks) (stepAfter (s .out .step) n) (s .out .clauses))))
       go true = x
       go false = y
 
@@ -152,7 +152,7 @@ module _ {c : ℕ} {t : List Node} {m : Memory} {s : State} (b : Bounded t) (ex 
             ∙ sym (map-append g (s .stored) (entry k (s .next-step) ∷ [])));
       }
 
-  holds-more : m .out .marks < trail → Holds t after (s .held)
+  holds-more : m .out .marks < trail → HeldFlags t after (s .held)
   holds-more h = record {
     is = λ n v there join low high.
         let r = slot-row b k used in
@@ -212,7 +212,7 @@ module _ {c : ℕ} {t : List Node} {m : Memory} {s : State} (b : Bounded t) (ex 
       }
 
   module _ {store′ log′ : List ℕ} {o : Out} {a : ℕ} (put : Puts (buffer (m .log) (m .out .at)) (flatMap numbers records) (buffer log′ a))
-      (n : ℕ) (count : n ≡ steps records) (is : kept store′ o ≡ keyStored (slot t k) a n (kept (m .store) (m .out))) where
+      (n : ℕ) (count : n ≡ steps records) (is : changed store′ o ≡ keyStored (slot t k) a n (changed (m .store) (m .out))) where
     size : length log′ ≡ c
     size = put .onward .size ∙ ex .logged .size
 
@@ -225,15 +225,15 @@ module _ {c : ℕ} {t : List Node} {m : Memory} {s : State} (b : Bounded t) (ex 
         let h : m .out .marks < trail =
         omega (arith, ex .small, ex .stores .trail .count, y .few-stored, length-append (s .stored) (entry k (s .next-step) ∷ [])) in
         let low : m .out .step < stepStop = omega (arith, ex .logged .step, ex .consistent .few, few-steps ex) in
-        let q = is ∙ stored-marked (slot t k) a n (kept (m .store) (m .out)) h in
-        let store-is : store′ ≡ after = ap (λ (x : Kept). x .store) q in
+        let q = is ∙ stored-marked (slot t k) a n (changed (m .store) (m .out)) h in
+        let store-is : store′ ≡ after = ap (λ (x : Changed). x .store) q in
         record {
           small = ex .small;
           logged = record {
             size = size;
-            is = ap (λ (x : Kept). content (buffer log′ (x .out .at))) q ∙ fit;
-            step = ap (λ (x : Kept). x .out .step) q ∙ step-after (m .out .step) n low ∙ rw (ex .logged .step, count);
-            clauses = ap (λ (x : Kept). x .out .clauses) q ∙ ex .logged .clauses ∙ sym (ap length (define-clauses t k s));
+            is = ap (λ (x : Changed). content (buffer log′ (x .out .at))) q ∙ fit;
+            step = ap (λ (x : Changed). x .out .step) q ∙ step-after (m .out .step) n low ∙ rw (ex .logged .step, count);
+            clauses = ap (λ (x : Changed). x .out .clauses) q ∙ ex .logged .clauses ∙ sym (ap length (define-clauses t k s));
           };
           stores = record {
             room = rw store-is (omega (
@@ -243,7 +243,7 @@ module _ {c : ℕ} {t : List Node} {m : Memory} {s : State} (b : Bounded t) (ex 
               length-set (set (m .store) (slot t k) (m .out .step)) (m .out .marks) (slot t k),
             ));
             firsts = rw store-is (firsts-more h);
-            trail = rw (store-is, ap (λ (x : Kept). x .out .marks) q) (trail-more h);
+            trail = rw (store-is, ap (λ (x : Changed). x .out .marks) q) (trail-more h);
             holds = rw store-is (holds-more h);
             blank = rw store-is (blank-more h);
           };
@@ -255,13 +255,13 @@ module _ {c : ℕ} {t : List Node} {m : Memory} {s : State} (b : Bounded t) (ex 
     defined = by (took (s .log) records (ex .logged .size) (ex .logged .is) put)
       where
         place : o .at ≡ a
-        place = ap (λ (x : Kept). x .out .at) is ∙ stored-at (slot t k) a n (kept (m .store) (m .out))
+        place = ap (λ (x : Changed). x .out .at) is ∙ stored-at (slot t k) a n (changed (m .store) (m .out))
 
         by : Took c (s .log) records (buffer log′ a) → Represents c t (memory store′ log′ o) (define t k s)
         by (fits e) = exact (exact-after e)
         by (past h more) = over (record {
           size = size;
           past = omega (arith, h, place);
-          room = omega (arith, ex .stores .room, ap (λ (x : Kept). length (x .store)) is ∙ stored-size (slot t k) a n (kept (m .store) (m .out)));
+          room = omega (arith, ex .stores .room, ap (λ (x : Changed). length (x .store)) is ∙ stored-size (slot t k) a n (changed (m .store) (m .out)));
           more = more;
         })

@@ -20,7 +20,7 @@ use Rattle.cert.proofs.Fits.{KeyFits, key-falls}
 use Rattle.cert.proofs.Serving.{define-keys}
 use Rattle.rows.specs.Rows.{Table}
 use Rattle.define.specs.declared.Out.{Out}
-use Rattle.define.specs.Store.{Used, WindowOf, slot, Kept, kept, keyStored}
+use Rattle.define.specs.Store.{Used, WindowOf, slot, Changed, changed, keyStored}
 use Rattle.define.specs.Represents.{Memory, memory, Exact, Represents, exact, Represented, Simulates}
 use Rattle.define.specs.Lookups.{New}
 use Rattle.define.proofs.Defines.{defined, stored-at}
@@ -97,10 +97,10 @@ module _ {ns : List ℕ} {P : List Node → State → Type 0} (k : Key) (p : ℕ
       → Puts (buffer (m .log) (m .out .at)) (flatMap numbers (keyRecords (stepIn (s .stored)) t k)) (buffer log′ a))
       → Onward (buffer (m .log) (m .out .at)) (buffer log′ a)
       → ((t : List Node) (s : State) (g : Key → ℕ → ℕ) → Table ns t → P t s → n ≡ steps (keyRecords g t k))
-      → kept store′ o ≡ keyStored p a n (kept (m .store) (m .out))
+      → changed store′ o ≡ keyStored p a n (changed (m .store) (m .out))
       → Simulates ns (λ t s. P t s × New k s) (λ t s. define t k s) m (memory store′ log′ o)
   sims-define {store′} {log′} {a} {o} n w on count is =
-      sims-open h (rw (ap (λ (x : Kept). x .out .at) is ∙ stored-at p a n (kept (m .store) (m .out))) on)
+      sims-open h (rw (ap (λ (x : Changed). x .out .at) is ∙ stored-at p a n (changed (m .store) (m .out))) on)
       (λ c t s l q x.
       defined (l .bounded) x k (named t s l (q .0) .used) (q .1 .new) (w c t s l (q .0) (q .1) x) n (count t s (stepIn (s .stored)) l (q .0))
       (rw (place t s l (q .0)) is))

@@ -18,7 +18,7 @@ use Rattle.rows.specs.Rows.{Bounded, Table}
 use Rattle.rows.specs.declared.Shown.{Shown}
 use Rattle.rows.proofs.Sides.{side-inside}
 use Rattle.define.specs.Represents.{Memory, Represented, Simulates}
-use Rattle.define.specs.Lookups.{RealOf, SideIn, ShownWindow}
+use Rattle.define.specs.Lookups.{RealOf, SideIn, SideWindow}
 
 -- ---- the key of a value
 
@@ -84,7 +84,7 @@ module _ {ns : List ℕ} (s : Shown) (a : ℕ) where
     }
 
     pub window-looks : (d : Direction) {m n : Memory} → plainOr (s .side .offset) (s .side .limit) true false ≡ false
-        → Simulates ns (λ t u. ShownWindow t s) (λ t u. lookUp t (window (s .side .node) (s .side .offset) (s .len)) u) m n
+        → Simulates ns (λ t u. SideWindow t s) (λ t u. lookUp t (window (s .side .node) (s .side .offset) (s .len)) u) m n
         → SideLooks ns s a d m n
     unfolding each
     window-looks d p x = record {

@@ -18,7 +18,7 @@ use Rattle.rows.proofs.Sides.{side-inside}
 use Rattle.window.specs.Window.{Handed, Bounds}
 use Rattle.define.specs.Store.{WindowOf, Used, slot}
 use Rattle.define.specs.Represents.{Memory, Exact, Represents, exact}
-use Rattle.define.specs.Lookups.{WindowIn, WindowShown, ShownWindow, Several}
+use Rattle.define.specs.Lookups.{WindowIn, SideWindowWith, SideWindow, Several}
 use Rattle.define.proofs.Defines.{few-steps, step-after}
 use Rattle.define.proofs.Simulates.{store-room}
 use Rattle.define.proofs.Slots.{window-slot, zero-named, window-named, slot-inside}
@@ -58,7 +58,7 @@ module _ (first f m : ℕ) where
       ∙ part-range (fromFirst first) 1 (f + m) f m (omega arith)
       ∙ ap (λ (a : ℕ). map (fromFirst first) (range a m)) e
 
-module _ {t : List Node} (b : Bounded t) (s : Shown) (w : ShownWindow t s) where
+module _ {t : List Node} (b : Bounded t) (s : Shown) (w : SideWindow t s) where
   pub window-of : WindowOf t (s .side .node) (s .side .offset) (s .len)
   window-of = record {
     place = w .shown .place;
@@ -111,7 +111,7 @@ pub record WindowBounds (store : List ℕ) (s : Shown) : Type 0 where
   pub inside : s .window + 1 < length store
   pub small : s .window + 1 < 4294967296
 
-pub window-bounds : {c : ℕ} {t : List Node} {m : Memory} {u : State} {s : Shown} → Bounded t → Represents c t m u → ShownWindow t s
+pub window-bounds : {c : ℕ} {t : List Node} {m : Memory} {u : State} {s : Shown} → Bounded t → Represents c t m u → SideWindow t s
     → WindowBounds (m .store) s
 window-bounds {t = t} {m = m} {s = s} b r w =
     let i = window-fits b s w in
@@ -133,7 +133,7 @@ window-bounds {t = t} {m = m} {s = s} b r w =
 
 -- ---- what the rest of a window is written from
 
-pub handed : {c : ℕ} {t : List Node} {m : Memory} {u : State} {s : Shown} {os : List ℕ} {r : ℕ} → Bounded t → Exact c t m u → WindowShown t os s
+pub handed : {c : ℕ} {t : List Node} {m : Memory} {u : State} {s : Shown} {os : List ℕ} {r : ℕ} → Bounded t → Exact c t m u → SideWindowWith t os s
     → r ≡ storeAt (s .side .node)
     → Handed (take (r + leftWindowColumn - r) (drop r (m .store))) os (stepIn (u .stored)) (s .side .node) (at t (s .side .node)) (s .side .offset) (s .len)
 unfolding stepIn Used slot
@@ -156,7 +156,7 @@ handed {c} {t} {m} {u} {s} {os} {r} b ex w e =
           rw (w .list) (same-output b s (w .window) v (omega arith) h ∙ sym (output-at (s .first) (s .side .offset) (s .len) v (omega arith) h));
     }
 
-pub bounds-of : {c : ℕ} {t : List Node} {m : Memory} {u : State} {s : Shown} {os : List ℕ} {r : ℕ} → Bounded t → Exact c t m u → WindowShown t os s
+pub bounds-of : {c : ℕ} {t : List Node} {m : Memory} {u : State} {s : Shown} {os : List ℕ} {r : ℕ} → Bounded t → Exact c t m u → SideWindowWith t os s
     → r ≡ storeAt (s .side .node) → Bounds (take (r + leftWindowColumn - r) (drop r (m .store))) os (s .side .offset) (s .len)
 bounds-of {c} {t} {m} {u} {s} {os} {r} b ex w e =
     let k = window-bounds b (exact ex) (w .window) in
@@ -177,7 +177,7 @@ module _ (s : Shown) {os : List ℕ} (e : os ≡ outputRow (s .first) (s .side .
   abbrev shown-part : List ℕ
   shown-part = take (s .side .offset + s .len - s .side .offset) (drop (s .side .offset) os)
 
-  pub window-in : {t : List Node} → Bounded t → ShownWindow t s → WindowIn t shown-part (s .window) (s .side .node) (s .side .offset) (s .len)
+  pub window-in : {t : List Node} → Bounded t → SideWindow t s → WindowIn t shown-part (s .window) (s .side .node) (s .side .offset) (s .len)
   unfolding slot
   window-in b w =
       let q : s .side .offset + s .len - s .side .offset ≡ s .len = omega arith in

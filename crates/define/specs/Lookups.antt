@@ -32,13 +32,13 @@ pub record SideIn (t : List Node) (s : Shown) (a : ℕ) : Type 0 where
   pub value : a ≤ s .len + 1
 
 -- A side of two values or more, whose window is looked up.
-pub record ShownWindow (t : List Node) (s : Shown) : Type 0 where
+pub record SideWindow (t : List Node) (s : Shown) : Type 0 where
   pub shown : ShownOf t s
   pub long : 1 < s .len
 
 -- The same, with the output list of its node.
-pub record WindowShown (t : List Node) (os : List ℕ) (s : Shown) : Type 0 where
-  pub window : ShownWindow t s
+pub record SideWindowWith (t : List Node) (os : List ℕ) (s : Shown) : Type 0 where
+  pub window : SideWindow t s
   pub list : os ≡ outputRow (s .first) (s .side .offset + s .len)
 
 -- A window with the place of its first steps and the list of its outputs.

@@ -11,7 +11,7 @@ use Rattle.cert.specs.Definitions.{Key}
 use Rattle.cert.specs.State.{State, Stored, keys, fromIn}
 use Rattle.rows.specs.Rows.{Table}
 use Rattle.define.specs.declared.Out.{Out}
-use Rattle.define.specs.Store.{Used, Firsts, Trail, Holds, Blank}
+use Rattle.define.specs.Store.{Used, Firsts, Trail, HeldFlags, Blank}
 
 -- All that a request changes.
 pub record Memory : Type 0 where
@@ -36,7 +36,7 @@ pub record Stores (t : List Node) (m : Memory) (s : State) : Type 0 where
   pub room : storeAt (length t) ≤ length (m .store)
   pub firsts : Firsts t (m .store) (s .stored)
   pub trail : Trail t (m .store) (m .out .marks) (s .stored)
-  pub holds : Holds t (m .store) (s .held)
+  pub holds : HeldFlags t (m .store) (s .held)
   pub blank : Blank t (m .store)
 
 -- ---- what holds of the state alone

@@ -74,7 +74,7 @@ IsJoin (leaf l) = ⊥
 IsJoin (join ls o l r) = Unit {0}
 
 -- Of joins alone: a leaf writes nothing.
-pub record Holds (t : List Node) (store : List ℕ) (held : List Request) : Type 0 where
+pub record HeldFlags (t : List Node) (store : List ℕ) (held : List Request) : Type 0 where
   pub is : (n v : ℕ) → n < length t → IsJoin (at t n) → 1 ≤ v → v ≤ width → getD store (heldAt n v) 0 ≡ heldOf held n v
 
 -- ---- the rows of nodes yet to be made
@@ -85,20 +85,20 @@ pub record Blank (t : List Node) (store : List ℕ) : Type 0 where
 -- ---- a definition stored
 
 -- All that it changes.
-pub record Kept : Type 0 where
+pub record Changed : Type 0 where
   pub store : List ℕ
   pub out : Out
 
-abbrev pub kept : List ℕ → Out → Kept
-kept s o = record { store = s; out = o }
+abbrev pub changed : List ℕ → Out → Changed
+changed s o = record { store = s; out = o }
 
 abbrev pub counters : ℕ → ℕ → ℕ → ℕ → Out
 counters a m n l = record { at = a; marks = m; step = n; clauses = l }
 
 -- The next n steps are those of the key at the place p, whose records end at the place a of the log. Where the trail is full there is no mark.
-unfoldable pub keyStored : ℕ → ℕ → ℕ → Kept → Kept
+unfoldable pub keyStored : ℕ → ℕ → ℕ → Changed → Changed
 unfolding stepAfter
 keyStored p a n s =
     cond (ltb (s .out .marks) trail)
-    (kept (set (set (s .store) p (s .out .step)) (s .out .marks) p) (counters a (s .out .marks + 1) (stepAfter (s .out .step) n) (s .out .clauses)))
-    (kept (set (s .store) p (s .out .step)) (counters a (s .out .marks) (stepAfter (s .out .step) n) (s .out .clauses)))
+    (changed (set (set (s .store) p (s .out .step)) (s .out .marks) p) (counters a (s .out .marks + 1) (stepAfter (s .out .step) n) (s .out .clauses)))
+    (changed (set (s .store) p (s .out .step)) (counters a (s .out .marks) (stepAfter (s .out .step) n) (s .out .clauses)))

@@ -14,9 +14,9 @@ ghost use Rattle.totdb.specs.Nodes.{Node};
 ghost use Rattle.cert.specs.Definitions.{Direction, real, realRecords, window-zero, window, sideDef, windowReals};
 ghost use Rattle.cert.specs.Requests.{keyOf};
 ghost use Rattle.cert.specs.State.{lookUp, define};
-ghost use Rattle.define.specs.Store.{kept, keyStored, WindowOf};
+ghost use Rattle.define.specs.Store.{changed, keyStored, WindowOf};
 ghost use Rattle.define.specs.Represents.{memory, Represented, Simulates};
-ghost use Rattle.define.specs.Lookups.{NodeOf, RealOf, New, WindowIn, WindowShown, ShownWindow, SideIn, Several};
+ghost use Rattle.define.specs.Lookups.{NodeOf, RealOf, New, WindowIn, SideWindowWith, SideWindow, SideIn, Several};
 
 // The place of the next byte, past the log's end where something did not fit; how many definitions are stored; the next step;
 // and how many clauses are written.
@@ -90,7 +90,7 @@ pub fn count_real(len: usize, value: usize) -> u32
 // The next `count` steps are those of the key at `slot`, whose records end at `at`.
 fn store_key(store: &mut [u32], o: Out, at: usize, slot: usize, count: u32) -> Out
     requires { ⌜ (trail ≤ slot) × (slot < length (now store)) × (slot < 4294967296) × (count ≤ mostBytes) ⌝ }
-    ensures { λ r. ⌜ kept (now (store .exit)) r ≡ keyStored slot at count (kept (now (store .entry)) o) ⌝ }
+    ensures { λ r. ⌜ changed (now (store .exit)) r ≡ keyStored slot at count (changed (now (store .entry)) o) ⌝ }
 {
     store[slot] = o.step;
     let k = o.marks;
@@ -187,10 +187,10 @@ fn look_up_reals(
 
 // The rest of a window, by the output list of its node.
 fn define_window(outputs: &[u32], store: &mut [u32], log: &mut [u8], o: Out, s: Shown) -> Out
-    requires { ⌜ ((ns : List ℕ) × Represented ns (λ t u. WindowShown t (now outputs) s × New (window (s .side .node) (s .side .offset) (s .len)) u)
+    requires { ⌜ ((ns : List ℕ) × Represented ns (λ t u. SideWindowWith t (now outputs) s × New (window (s .side .node) (s .side .offset) (s .len)) u)
         (memory (now store) (now log) o)) ⌝ }
     ensures { λ r. ⌜ ((ns : List ℕ) → Simulates ns
-        (λ t u. WindowShown t (now (outputs .entry)) s × New (window (s .side .node) (s .side .offset) (s .len)) u)
+        (λ t u. SideWindowWith t (now (outputs .entry)) s × New (window (s .side .node) (s .side .offset) (s .len)) u)
         (λ t u. define t (window (s .side .node) (s .side .offset) (s .len)) u)
         (memory (now (store .entry)) (now (log .entry)) o) (memory (now (store .exit)) (now (log .exit)) r)) ⌝ }
 {
@@ -213,8 +213,8 @@ fn define_window(outputs: &[u32], store: &mut [u32], log: &mut [u8], o: Out, s: 
 
 // The window of a side: the sum of value 0, the real definitions that are missing, then the rest.
 fn look_up_window(nodes: &[u32], store: &mut [u32], log: &mut [u8], o: Out, s: Shown) -> Out
-    requires { ⌜ Represented (now nodes) (λ t u. ShownWindow t s) (memory (now store) (now log) o) ⌝ }
-    ensures { λ r. ⌜ Simulates (now (nodes .entry)) (λ t u. ShownWindow t s)
+    requires { ⌜ Represented (now nodes) (λ t u. SideWindow t s) (memory (now store) (now log) o) ⌝ }
+    ensures { λ r. ⌜ Simulates (now (nodes .entry)) (λ t u. SideWindow t s)
         (λ t u. lookUp t (window (s .side .node) (s .side .offset) (s .len)) u)
         (memory (now (store .entry)) (now (log .entry)) o) (memory (now (store .exit)) (now (log .exit)) r) ⌝ }
 {

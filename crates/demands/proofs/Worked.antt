@@ -5,7 +5,7 @@ use mathlib.Core.List.{List, [], _∷_, flatMap, List·Memᴰ, List·Memᴰ·hea
 use Prim.Native.Nat.{ℕ}
 use native.Mathlib.Omega.{arith}
 use Rattle.number.specs.Number.{Bytes}
-use Rattle.memo.specs.Closure.{Same}
+use Rattle.memo.specs.Closure.{SameMembers}
 use Rattle.memo.proofs.Lists.{of-three}
 use Rattle.totdb.specs.declared.Side.{Side}
 use Rattle.cert.specs.Definitions.{if, only-if}
@@ -64,7 +64,7 @@ unfolding five six
 second-commands =
     five (Command.Request 5 2 1 ∷ six (Command.Request 6 2 2 ∷ Command.Request 6 1 1 ∷ Command.Request 6 2 2 ∷ Command.Close ∷ []))
 
-three : (a b c : Request) → Same (a ∷ b ∷ c ∷ []) (c ∷ b ∷ a ∷ b ∷ [])
+three : (a b c : Request) → SameMembers (a ∷ b ∷ c ∷ []) (c ∷ b ∷ a ∷ b ∷ [])
 three a b c x =
     let i : List·Memᴰ a (a ∷ b ∷ c ∷ []) = List·Memᴰ·head refl in
     let j : List·Memᴰ b (a ∷ b ∷ c ∷ []) = List·Memᴰ·tail (List·Memᴰ·head refl) in

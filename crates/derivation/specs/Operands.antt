@@ -48,6 +48,10 @@ unfoldable pub clauseNumbers : Clause → List ℕ
 unfolding numbers part
 clauseNumbers c = numbers (clause (c .step) (part (c .left) ++ part (c .right) ++ (c .output ∷ [])))
 
+-- No clause takes more bytes with the derivation of its step: 17 numbers of five bytes.
+abbrev pub clauseRoom : ℕ
+clauseRoom = 85
+
 -- ---- a clause with both parts, whose step adds up three steps
 
 unfoldable pub wholeNumbers : Whole → List ℕ

@@ -4,12 +4,13 @@ ghost use mathlib.Core.Bool.{true};
 ghost use mathlib.Core.List.{[], _∷_, _++_};
 ghost use Prim.Native.Nat.{ℕ, _+_, _≤_};
 ghost use lib.ListN.{length};
+ghost use Rattle.sizes.specs.Sizes.{mostBytes};
 ghost use Rattle.pb.specs.Rules.{step, add, divide, saturate};
 ghost use Rattle.record.specs.Record.{derivation, numbers, tokenNumbers};
 ghost use Rattle.record.specs.Writing.{buffer, Puts};
 ghost use Rattle.totdb.specs.Nodes.{Node, output};
 ghost use Rattle.cert.specs.Definitions.{Key, addSequence, ifPart, onlyIfPart, real};
-ghost use Rattle.derivation.specs.Operands.{stepAfter, nextStep, part, stepTokens, tokens, clauseNumbers, wholeNumbers, isTwo, areTwos, Two, Twos};
+ghost use Rattle.derivation.specs.Operands.{stepAfter, nextStep, part, stepTokens, tokens, clauseNumbers, clauseRoom, wholeNumbers, isTwo, areTwos, Two, Twos};
 
 // A definition as a derivation adds it: nothing, the step that defines it, or a literal axiom.
 pub enum SemDefinition {
@@ -149,11 +150,11 @@ fn push_both(
     right: SemDefinition,
     c: Clause,
 ) -> usize
-    requires { ⌜ at + 85 ≤ length (now log) ⌝ }
+    requires { ⌜ at + clauseRoom ≤ length (now log) ⌝ }
     ensures { λ r. ⌜ Puts (buffer (now (log .entry)) at)
         (numbers (derivation (stepTokens this left right)) ++ clauseNumbers c)
         (buffer (now (log .exit)) r) ⌝ }
-    ensures { λ r. ⌜ r ≤ at + 85 ⌝ }
+    ensures { λ r. ⌜ r ≤ at + clauseRoom ⌝ }
 {
     let middle = push_step(log, at, this, left, right);
     push_clause(log, middle, c)
@@ -277,9 +278,9 @@ fn push_whole_clause(log: &mut [u8], at: usize, w: Whole, two: bool) -> usize
 
 // Both records.
 fn push_whole_both(log: &mut [u8], at: usize, w: Whole, two: bool) -> usize
-    requires { ⌜ (at + 85 ≤ length (now log)) × (two ≡ true → Twos w) ⌝ }
+    requires { ⌜ (at + clauseRoom ≤ length (now log)) × (two ≡ true → Twos w) ⌝ }
     ensures { λ r. ⌜ Puts (buffer (now (log .entry)) at) (wholeNumbers w) (buffer (now (log .exit)) r) ⌝ }
-    ensures { λ r. ⌜ r ≤ at + 85 ⌝ }
+    ensures { λ r. ⌜ r ≤ at + clauseRoom ⌝ }
 {
     let middle = push_whole_step(log, at, w, two);
     push_whole_clause(log, middle, w, two)
@@ -322,7 +323,7 @@ fn are_twos(w: Whole) -> bool
 
 // Both records. Where all numbers have two groups their places are known, and no more is tested.
 pub fn push_whole(log: &mut [u8], at: usize, w: Whole) -> usize
-    requires { ⌜ at + 85 ≤ length (now log) ⌝ }
+    requires { ⌜ at + clauseRoom ≤ length (now log) ⌝ }
     ensures { λ r. ⌜ Puts (buffer (now (log .entry)) at) (wholeNumbers w) (buffer (now (log .exit)) r) ⌝ }
 {
     if are_twos(w) {
@@ -400,7 +401,7 @@ pub fn push_only_if_part(
 
 // The step k places after n. It stops at a number that no log reaches, so that the sum is a u32.
 pub fn step_after(n: u32, k: u32) -> u32
-    requires { ⌜ k ≤ 65536 ⌝ }
+    requires { ⌜ k ≤ mostBytes ⌝ }
     ensures { λ r. ⌜ r ≡ stepAfter n k ⌝ }
 {
     if n < sizes::STEP_STOP { n + k } else { n }

@@ -3,7 +3,7 @@
 use mathlib.Core.Path.{_≡_, refl, _∙_}
 use mathlib.Core.List.{List, [], _∷_, _++_, flatMap, List·Memᴰ, List·Memᴰ·not-nil, Perm}
 use lib.Seq.{append-snoc}
-use Rattle.memo.specs.Closure.{Same}
+use Rattle.memo.specs.Closure.{SameMembers}
 use Rattle.memo.proofs.Lists.{flatMap-agree, of-flatMap}
 use Rattle.memo.proofs.Memo.{Rules, Log, Body, Written, items-perm, clauses-perm, keys-perm, sums-perm}
 use Rattle.memo.proofs.Serve.{Serves, serves-agree, served-good, serves-nil, serves-then}
@@ -124,7 +124,7 @@ module _ {Node Item Key Clause Sum : Type 0} {W : World Node Item Key Clause Sum
       record { serves = i .0; body = i .1 .body }
 
   -- Two scripts that make the same nodes and want the same items, in any order and place and however often.
-  pub runs-match : {cs ds : List (Cmd Node Item)} {l m : Log Item Key Clause Sum} → made ds ≡ made cs → Same (wanted cs) (wanted ds) → W .Ok (made cs)
+  pub runs-match : {cs ds : List (Cmd Node Item)} {l m : Log Item Key Clause Sum} → made ds ≡ made cs → SameMembers (wanted cs) (wanted ds) → W .Ok (made cs)
       → Run W cs [] empty l → Run W ds [] empty m → Matched l m
   runs-match {cs} {ds} {l} {m} nodes same ok p q =
       let a = run-written p ok in

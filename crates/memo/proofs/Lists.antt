@@ -6,7 +6,7 @@ use mathlib.Core.List.{List, [], _∷_, _++_, map, flatMap, append-assoc, List·
 use Prim.Native.Nat.{suc}
 use native.Mathlib.Nat.{ℕ-set}
 use lib.ListN.{length}
-use Rattle.memo.specs.Closure.{Same}
+use Rattle.memo.specs.Closure.{SameMembers}
 use Rattle.memo.specs.Visit.{fresh, decMemᴰ}
 
 module _ {A : Type 0} where
@@ -55,7 +55,7 @@ module _ {A : Type 0} where
       step (no n) r = nodup-cons .1 (not-mem (λ h. nodup-cons .0 d .0 ∣ fresh-sub dec v xs x h ∣₁), r)
 
   -- Two lists without duplicates that have the same members are permutations of one another.
-  pub perm-of-same : {xs ys : List A} → List·Nodup xs → List·Nodup ys → Same xs ys → Perm xs ys
+  pub perm-of-same : {xs ys : List A} → List·Nodup xs → List·Nodup ys → SameMembers xs ys → Perm xs ys
   perm-of-same dx dy h = perm-ext-iff-of-nodup dx dy .1 (λ a. (λ m. ∥∥₁-map m (h a .0), λ m. ∥∥₁-map m (h a .1)))
 
   pub length-permᴰ : {xs ys : List A} → List·Permᴰ xs ys → length xs ≡ length ys
@@ -112,7 +112,7 @@ module _ {A B : Type 0} where
   flatMap-append f [] ys = refl
   flatMap-append f (x ∷ xs) ys = rw (flatMap-append f xs ys) (sym (append-assoc (f x) (flatMap f xs) (flatMap f ys)))
 
-  pub same-flatMap : (f : A → List B) {xs ys : List A} → Same xs ys → Same (flatMap f xs) (flatMap f ys)
+  pub same-flatMap : (f : A → List B) {xs ys : List A} → SameMembers xs ys → SameMembers (flatMap f xs) (flatMap f ys)
   same-flatMap f {xs} {ys} s b = (
     λ m. let k = of-flatMap f xs m in mem-flatMap f (s (k .0) .0 (k .1)) (k .2),
     λ m. let k = of-flatMap f ys m in mem-flatMap f (s (k .0) .1 (k .1)) (k .2),

@@ -3,7 +3,7 @@
 use mathlib.Core.Path.{_≡_, subst}
 use mathlib.Core.List.{List, [], _∷_, _++_, flatMap, append-nil, List·Memᴰ, Perm, List·Nodup}
 use Prim.Native.Nat.{ℕ}
-use Rattle.memo.specs.Closure.{From, Same}
+use Rattle.memo.specs.Closure.{From, SameMembers}
 use Rattle.memo.specs.Visit.{batch}
 use Rattle.memo.proofs.Lists.{flatMap-append, of-flatMap, mem-flatMap, nodup-flatMap, flatMap-perm, same-flatMap}
 use Rattle.memo.proofs.Machine.{batch-keeps}
@@ -81,7 +81,7 @@ module _ {Item Key Clause Sum : Type 0} {R : Rules Item Key Clause Sum} {xs : Li
       (λ x y c i j. apart x y c (served-from (w .serves) x i) (served-from (w .serves) y j)))
 
 -- Two runs with the same set of requests.
-module _ {Item Key Clause Sum : Type 0} {R : Rules Item Key Clause Sum} {xs ys : List Item} {l m : Log Item Key Clause Sum} (s : Same xs ys)
+module _ {Item Key Clause Sum : Type 0} {R : Rules Item Key Clause Sum} {xs ys : List Item} {l m : Log Item Key Clause Sum} (s : SameMembers xs ys)
     (p : Written R xs l) (q : Written R ys m) where
   pub items-perm : Perm (l .items) (m .items)
   items-perm = served-perm s (p .serves) (q .serves)

@@ -6,7 +6,7 @@ use mathlib.Core.Logic.{_⊎_, inl, inr, ⊎-elim, dite, ∥∥₁-elim}
 use mathlib.Core.List.{List, [], _∷_, _++_, flatMap, append-nil, List·Memᴰ, List·Memᴰ·head, List·Memᴰ·tail, List·Memᴰ·cases-cons, List·Memᴰ·not-nil, List·Memᴰ·append-cases, List·Memᴰ·eq-of-singleton, Memᴰ·append-left, Memᴰ·append-right, Memᴰ·cast, Perm, List·Nodup, nodup-nil, nodup-cons, nodup-append}
 use Prim.Native.Nat.{ℕ, zero, suc, _≤_, _<_}
 use native.Mathlib.Omega.{arith}
-use Rattle.memo.specs.Closure.{From, Reach, reach-here, reach-down, Same}
+use Rattle.memo.specs.Closure.{From, Reach, reach-here, reach-down, SameMembers}
 use Rattle.memo.specs.Visit.{each, decMemᴰ}
 use Rattle.memo.proofs.Lists.{perm-of-same, of-flatMap, mem-flatMap, not-mem}
 
@@ -83,13 +83,13 @@ module _ {Item : Type 0} {needs : Item → List Item} where
   served-once p = p .once nodup-nil
 
   -- Two request lists with the same members: what is served is the same, in some order.
-  pub served-same : {xs ys v w : List Item} → Same xs ys → Serves needs xs [] v → Serves needs ys [] w → Same v w
+  pub served-same : {xs ys v w : List Item} → SameMembers xs ys → Serves needs xs [] v → Serves needs ys [] w → SameMembers v w
   served-same s p q b = (
     λ m. let f = served-from p b m in served-has q b (f .0, s (f .0) .0 (f .1), f .2),
     λ m. let f = served-from q b m in served-has p b (f .0, s (f .0) .1 (f .1), f .2),
   )
 
-  pub served-perm : {xs ys v w : List Item} → Same xs ys → Serves needs xs [] v → Serves needs ys [] w → Perm v w
+  pub served-perm : {xs ys v w : List Item} → SameMembers xs ys → Serves needs xs [] v → Serves needs ys [] w → Perm v w
   served-perm s p q = perm-of-same (served-once p) (served-once q) (served-same s p q)
 
   module _ {Good : Item → Type 0} {rank : Item → ℕ} (law : Falls needs Good rank) where

@@ -13,5 +13,5 @@ module _ {Item : Type 0} (needs : Item → List Item) where
   From xs b = (a : Item) × List·Memᴰ a xs × Reach a b
 
 -- Two lists with the same members.
-abbrev pub Same : {A : Type 0} → List A → List A → Type 0
-Same {A} xs ys = (a : A) → (List·Memᴰ a xs → List·Memᴰ a ys) × (List·Memᴰ a ys → List·Memᴰ a xs)
+abbrev pub SameMembers : {A : Type 0} → List A → List A → Type 0
+SameMembers {A} xs ys = (a : A) → (List·Memᴰ a xs → List·Memᴰ a ys) × (List·Memᴰ a ys → List·Memᴰ a xs)

@@ -14,10 +14,10 @@ use Rattle.cert.specs.Sized.{Fit}
 use Rattle.cert.proofs.Rules.{sideLen-more}
 use Rattle.cert.proofs.Tables.{at-last, length-snoc, side-some, taken-snoc}
 use Rattle.rows.specs.Windows.{left-at, right-at}
-use Rattle.rows.specs.Rows.{rowOf, KindOf, Row, leafLiterals, Bounded, Table}
+use Rattle.rows.specs.Rows.{rowOf, KindOf, Row, leafColumn, Bounded, Table}
 use Rattle.rows.proofs.Sides.{window-own}
 use Rattle.rows.proofs.Growing.{SidesOf, bounded-snoc, taken-last, table-snoc}
-use Rattle.nodes.specs.Added.{Leafable, Joinable, Sided, leafRow, joinRow}
+use Rattle.nodes.specs.Added.{Leafable, Joinable, Sided, leafNumbers, joinNumbers}
 use Rattle.nodes.proofs.Placing.{put-below, put-start, put-here, leaf-kept, mark-other, marks-are}
 use Rattle.nodes.proofs.Literals.{side-count}
 
@@ -29,15 +29,15 @@ count-leaf [] l = refl
 count-leaf (leaf m ∷ t) l = ap suc (count-leaf t l)
 count-leaf (join m o a b ∷ t) l = count-leaf t l
 
-literals-leaf : (t : List Node) (l : ℕ) → leafLiterals (t ++ (leaf l ∷ [])) ≡ leafLiterals t ++ (l ∷ [])
-unfolding leafLiterals
+literals-leaf : (t : List Node) (l : ℕ) → leafColumn (t ++ (leaf l ∷ [])) ≡ leafColumn t ++ (l ∷ [])
+unfolding leafColumn
 literals-leaf [] l = refl
 literals-leaf (leaf m ∷ t) l = ap (λ (x : List ℕ). m ∷ x) (literals-leaf t l)
 literals-leaf (join m o a b ∷ t) l = literals-leaf t l
 
 same-join : (t : List Node) (m : List ℕ) (v : ℕ) (l r : Side)
-    → (leafCount (t ++ (join m v l r ∷ [])) ≡ leafCount t) × (leafLiterals (t ++ (join m v l r ∷ [])) ≡ leafLiterals t)
-unfolding leafCount leafLiterals
+    → (leafCount (t ++ (join m v l r ∷ [])) ≡ leafCount t) × (leafColumn (t ++ (join m v l r ∷ [])) ≡ leafColumn t)
+unfolding leafCount leafColumn
 same-join [] m v l r = (refl, refl)
 same-join (leaf a ∷ t) m v l r = let h = same-join t m v l r in (ap suc (h .0), ap (λ (x : List ℕ). a ∷ x) (h .1))
 same-join (join k o a b ∷ t) m v l r = same-join t m v l r
@@ -95,7 +95,7 @@ module _ {ns : List ℕ} {t : List Node} {n k l : ℕ} (j : Leafable ns t n k l)
         free = tt;
       })
 
-  row-leaf : Row (leafRow l) with-leaf (length t) (leaf l)
+  row-leaf : Row (leafNumbers l) with-leaf (length t) (leaf l)
   unfolding len leaves output KindOf
   row-leaf = record {
     length = refl;
@@ -105,18 +105,18 @@ module _ {ns : List ℕ} {t : List Node} {n k l : ℕ} (j : Leafable ns t n k l)
     list = refl;
   }
 
-  pub table-leaf : rowAt (n + 1) ≤ length ns → Table (set (paste ns (rowAt n) (leafRow l) row) k l) with-leaf
+  pub table-leaf : rowAt (n + 1) ≤ length ns → Table (set (paste ns (rowAt n) (leafNumbers l) row) k l) with-leaf
   table-leaf room =
       let next : length t ≡ n = j .next in
       let few : k < mostLeaves = j .few in
       let inside : rowAt n + row ≤ length ns = omega arith in
-      let ms : List ℕ = paste ns (rowAt n) (leafRow l) row in
-      let long : length ms ≡ length ns = length-paste ns (rowAt n) (leafRow l) row inside (omega arith) in
+      let ms : List ℕ = paste ns (rowAt n) (leafNumbers l) row in
+      let long : length ms ≡ length ns = length-paste ns (rowAt n) (leafNumbers l) row inside (omega arith) in
       table-snoc t (leaf l) (j .table .bounded) bounded-leaf ns (set ms k l) (j .table .has)
       (omega (arith, length-set ms k l))
-      (λ i h. leaf-kept ms k l i few ∙ put-below ns n (leafRow l) inside i (omega arith) ∙ same-leaf (j .table) i h l)
-      (rw (leaf-kept ms k l (length t) few, next, put-here ns n (leafRow l) inside refl) (rw next at row-leaf))
-      (rw (count-leaf t l, literals-leaf t l, j .leaves, take-suc-set ms k l (omega arith), put-start ns n (leafRow l) inside k (omega arith))
+      (λ i h. leaf-kept ms k l i few ∙ put-below ns n (leafNumbers l) inside i (omega arith) ∙ same-leaf (j .table) i h l)
+      (rw (leaf-kept ms k l (length t) few, next, put-here ns n (leafNumbers l) inside refl) (rw next at row-leaf))
+      (rw (count-leaf t l, literals-leaf t l, j .leaves, take-suc-set ms k l (omega arith), put-start ns n (leafNumbers l) inside k (omega arith))
       (ap (λ (x : List ℕ). x ++ (l ∷ [])) (ap (λ (i : ℕ). take i ns) (sym (j .leaves)) ∙ j .table .has .leaves)))
 
 -- ---- a join
@@ -129,7 +129,7 @@ module _ {ns : List ℕ} {t : List Node} {n v : ℕ} {l r : Side} (j : Joinable 
   with-join = t ++ (join both v l r ∷ [])
 
   abbrev new-row : List ℕ
-  new-row = joinRow n v l (sideLeaves t l) r (sideLeaves t r)
+  new-row = joinNumbers n v l (sideLeaves t l) r (sideLeaves t r)
 
   both-long : length both ≡ sideLen t l + sideLen t r
   both-long = length-append (sideLeaves t l) (sideLeaves t r) ∙ rw (side-count t l, side-count t r)

@@ -11,7 +11,7 @@ use lib.ListN.{length, getD, take}
 use lib.Seq.{getD-take, length-take-le}
 use Rattle.sizes.specs.Sizes.{takenColumn, takenAt}
 use Rattle.totdb.specs.Nodes.{Node, leaf, join, any, leafOf, known, leafCount, taken}
-use Rattle.rows.specs.Rows.{leafLiterals, Table}
+use Rattle.rows.specs.Rows.{leafColumn, Table}
 use Rattle.rows.proofs.Growing.{one-of}
 use Rattle.rows.proofs.Reading.{in-row}
 
@@ -26,8 +26,8 @@ module _ {A : Type 0} (f : A → Bool) (d : A) where
 
 -- ---- leaves
 
-known-literal : (t : List Node) (l : ℕ) → known t l ≡ any (eqb l) (leafLiterals t)
-unfolding known any leafOf leafLiterals
+known-literal : (t : List Node) (l : ℕ) → known t l ≡ any (eqb l) (leafColumn t)
+unfolding known any leafOf leafColumn
 known-literal [] l = refl
 known-literal (leaf m ∷ t) l = ap (λ (b : Bool). eqb l m || b) (known-literal t l)
 known-literal (join m o a b ∷ t) l = known-literal t l

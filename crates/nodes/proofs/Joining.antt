@@ -7,7 +7,7 @@ use lib.ListN.{length, set, drop, replicate, length-append}
 use lib.Seq.{paste, sets, take-at, take-all, drop-append-add}
 use Rattle.sizes.specs.Sizes.{width, row, lengthColumn, firstColumn, kindColumn, leftColumn, rightColumn, listColumn, leftWindow, rightWindow}
 use Rattle.totdb.specs.declared.Side.{Side}
-use Rattle.nodes.specs.Added.{sideRow, joinRow}
+use Rattle.nodes.specs.Added.{sideNumbers, joinNumbers}
 
 -- ---- a list put where zeros are
 
@@ -35,6 +35,6 @@ module _ (n v : ℕ) (l r : Side) (a b : List ℕ) {p q : ℕ} (e : p ≡ length
       ∙ append-assoc head a (b ++ replicate (width - p - q) 0))
 
   pub row-made : {x y z w : List ℕ} → x ≡ paste (replicate row 0) listColumn a p → y ≡ paste x (listColumn + p) b q
-      → z ≡ sets (set (set (set y lengthColumn (p + q)) firstColumn (2 * v)) kindColumn 1) leftColumn (sideRow l p (leftWindow n)) → w ≡ sets z rightColumn (sideRow r q (rightWindow n))
-      → w ≡ joinRow n v l a r b
+      → z ≡ sets (set (set (set y lengthColumn (p + q)) firstColumn (2 * v)) kindColumn 1) leftColumn (sideNumbers l p (leftWindow n)) → w ≡ sets z rightColumn (sideNumbers r q (rightWindow n))
+      → w ≡ joinNumbers n v l a r b
   row-made g h i k = k ∙ rw (i, both-lists g h, e, f)

@@ -52,15 +52,15 @@ pub record Small (s : Side) : Type 0 where
 
 -- ---- rows
 
-abbrev pub leafRow : ℕ → List ℕ
-leafRow l = 1 ∷ l ∷ 0 ∷ 0 ∷ (replicate (listColumn - leftColumn) 0 ++ (l ∷ replicate (width - 1) 0))
+abbrev pub leafNumbers : ℕ → List ℕ
+leafNumbers l = 1 ∷ l ∷ 0 ∷ 0 ∷ (replicate (listColumn - leftColumn) 0 ++ (l ∷ replicate (width - 1) 0))
 
 -- A side's numbers: with its length, and the place of its window's first steps.
-abbrev pub sideRow : Side → ℕ → ℕ → List ℕ
-sideRow s k w = s .node ∷ s .offset ∷ s .limit ∷ k ∷ w ∷ []
+abbrev pub sideNumbers : Side → ℕ → ℕ → List ℕ
+sideNumbers s k w = s .node ∷ s .offset ∷ s .limit ∷ k ∷ w ∷ []
 
 -- The row of the join n of two sides with literals a and b, and outputs from the variable v up.
-abbrev pub joinRow : ℕ → ℕ → Side → List ℕ → Side → List ℕ → List ℕ
-joinRow n v l a r b =
-    (length a + length b) ∷ (2 * v) ∷ 1 ∷ 0 ∷ (sideRow l (length a) (leftWindow n) ++ (sideRow r (length b) (rightWindow n)
+abbrev pub joinNumbers : ℕ → ℕ → Side → List ℕ → Side → List ℕ → List ℕ
+joinNumbers n v l a r b =
+    (length a + length b) ∷ (2 * v) ∷ 1 ∷ 0 ∷ (sideNumbers l (length a) (leftWindow n) ++ (sideNumbers r (length b) (rightWindow n)
     ++ (a ++ (b ++ replicate (width - length a - length b) 0))))

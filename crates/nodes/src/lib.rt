@@ -8,7 +8,7 @@ ghost use lib.Seq.{paste, sets};
 ghost use Rattle.sizes.specs.Sizes.{row, rowAt, takenAt, width, mostNodes};
 ghost use Rattle.totdb.specs.Nodes.{Node, leaf, at, len, joined, part, plainOr, sideLen, sideLeaves, leafCount};
 ghost use Rattle.rows.specs.Rows.{Table};
-ghost use Rattle.nodes.specs.Added.{Leafable, Joinable, Sided, Small, leafRow, sideRow, joinRow};
+ghost use Rattle.nodes.specs.Added.{Leafable, Joinable, Sided, Small, leafNumbers, sideNumbers, joinNumbers};
 
 // A leaf has the literal. `count` is the number of leaves; the newest comes first.
 pub fn known(nodes: &[u32], count: usize, literal: u32) -> bool
@@ -55,7 +55,7 @@ fn put_row(nodes: &mut [u32], node: usize, r: &[u32; sizes::ROW])
 
 // The row of a leaf.
 fn leaf_row(literal: u32) -> [u32; sizes::ROW]
-    ensures { λ r. ⌜ r ≡ leafRow literal ⌝ }
+    ensures { λ r. ⌜ r ≡ leafNumbers literal ⌝ }
 {
     let mut r = [0u32; sizes::ROW];
     r[sizes::LEN] = 1;
@@ -120,7 +120,7 @@ fn append_side(nodes: &mut [u32], r: &mut [u32], at: usize, s: Side, len: usize)
 // A side's numbers, from `at` on.
 fn put_side(r: &mut [u32], at: usize, s: Side, len: usize, window: usize)
     requires { ⌜ (at + 5 ≤ length (now r)) × Small s × (len ≤ width) × (window < 4294967296) ⌝ }
-    ensures { λ _. ⌜ now (r .exit) ≡ sets (now (r .entry)) at (sideRow s len window) ⌝ }
+    ensures { λ _. ⌜ now (r .exit) ≡ sets (now (r .entry)) at (sideNumbers s len window) ⌝ }
 {
     r[at] = s.node as u32;
     r[at + 1] = s.offset as u32;
@@ -143,7 +143,7 @@ fn join_row(
     requires { ⌜ ((t : List Node) × Sided (now nodes) t l «l_len» × Sided (now nodes) t r «r_len») ⌝ }
     ensures { λ _. ⌜ now (nodes .exit) ≡ now (nodes .entry) ⌝ }
     ensures { λ e. ⌜ ((t : List Node) → Sided (now (nodes .entry)) t l «l_len» → Sided (now (nodes .entry)) t r «r_len»
-        → e ≡ joinRow n variable l (sideLeaves t l) r (sideLeaves t r)) ⌝ }
+        → e ≡ joinNumbers n variable l (sideLeaves t l) r (sideLeaves t r)) ⌝ }
 {
     let mut row = [0u32; sizes::ROW];
     append_side(nodes, &mut row, sizes::LIST, l, l_len);

@@ -303,11 +303,11 @@ normal-unique s ts b u e h =
 
 -- Two sums say the same if at each literal the one's coefficient less the negation's is the other's, and so is the weight less twice the bound.
 -- Both differences are additive, so what `add` makes is read off by linear arithmetic.
-pub record Same (s t : Sum) : Type 0 where
+pub record SameSum (s t : Sum) : Type 0 where
   pub at : (l : ℕ) → coef (s .terms) l + coef (t .terms) (neg l) ≡ coef (t .terms) l + coef (s .terms) (neg l)
   pub level : weight (s .terms) + 2 * t .bound ≡ weight (t .terms) + 2 * s .bound
 
-pub normal-same : (s t : Sum) → Same s t → normal s ≡ normal t
+pub normal-same : (s t : Sum) → SameSum s t → normal s ≡ normal t
 unfolding spent
 normal-same s t e = normal-ext s t nets
     (omega (arith, e .level, weight-normal (s .terms), weight-normal (t .terms), ap weight (kept-same (s .terms) (t .terms) nets)))
@@ -316,7 +316,7 @@ normal-same s t e = normal-ext s t nets
     nets l = simp net-is (omega (arith, e .at l))
 
 -- what is left of the bound, or is missing there, is the same too
-pub same-spent : (s t : Sum) → Same s t → s .bound + spent t ≡ t .bound + spent s
+pub same-spent : (s t : Sum) → SameSum s t → s .bound + spent t ≡ t .bound + spent s
 unfolding spent
 same-spent s t e = omega (arith, e .level, weight-normal (s .terms), weight-normal (t .terms), ap weight (kept-same (s .terms) (t .terms) nets))
   where
@@ -455,7 +455,7 @@ bound-apart ts b h = rw (normal-is (ts ≥ b), lost-clean ts (variables ts) (Apa
 
 -- ---- a sum says the same as its normal form, where no more cancels than the bound has
 
-pub same-normal : (s : Sum) → spent s ≤ s .bound → Same s (normal s)
+pub same-normal : (s : Sum) → spent s ≤ s .bound → SameSum s (normal s)
 unfolding spent
 same-normal s h = rw (normal-is s) (record {
   at = λ (l : ℕ). simp (coef-normal, net-is, neg-neg) (omega arith);
@@ -476,5 +476,5 @@ normal-normal s = normal-unique (normal s) (normal s .terms) (normal s .bound) (
     coefs l = sym (net-clean (normal s .terms) l clean)
 
 -- a sum that says the same as a clean one has room in its bound for all that cancels
-pub same-room : (s t : Sum) → Same s t → Clean (t .terms) → spent s ≤ s .bound
+pub same-room : (s t : Sum) → SameSum s t → Clean (t .terms) → spent s ≤ s .bound
 same-room s t e h = omega (arith, same-spent s t e, spent-clean t h)

@@ -8,7 +8,7 @@ use native.Mathlib.Omega.{arith}
 use lib.ListN.{length}
 use Rattle.pb.specs.Rules.{addition, division, mapCoefs, ceilDiv, saturation}
 use Rattle.pb.specs.Sum.{Term, coef, _·_, Sum, normal, _≥_, keep, variable, units, clauseSum, neg, hit}
-use Rattle.pb.proofs.Normal.{weight, Same, spent, normal-same, same-normal, Apart, bound-apart, normal-each, Off, Apart-each, coef-off}
+use Rattle.pb.proofs.Normal.{weight, SameSum, spent, normal-same, same-normal, Apart, bound-apart, normal-each, Off, Apart-each, coef-off}
 use Rattle.pb.proofs.Terms.{coef-nil, coef-cons, hit-neg, hit-cases}
 
 -- ---- addition
@@ -34,29 +34,29 @@ pub add-bound : (s t : Sum) → addition s t .bound ≡ s .bound + t .bound
 unfolding addition
 add-bound s t = refl
 
-pub same-refl : (s : Sum) → Same s s
+pub same-refl : (s : Sum) → SameSum s s
 same-refl s = record { at = λ (l : ℕ). refl; level = refl }
 
-pub same-sym : {s t : Sum} → Same s t → Same t s
+pub same-sym : {s t : Sum} → SameSum s t → SameSum t s
 same-sym e = record { at = λ (l : ℕ). sym (e .at l); level = sym (e .level) }
 
-pub same-trans : {s t u : Sum} → Same s t → Same t u → Same s u
+pub same-trans : {s t u : Sum} → SameSum s t → SameSum t u → SameSum s u
 same-trans e f = record { at = λ (l : ℕ). omega (arith, e .at l, f .at l); level = omega (arith, e .level, f .level) }
 
-pub same-add : {s s′ t t′ : Sum} → Same s s′ → Same t t′ → Same (addition s t) (addition s′ t′)
+pub same-add : {s s′ t t′ : Sum} → SameSum s s′ → SameSum t t′ → SameSum (addition s t) (addition s′ t′)
 unfolding addition
 same-add {s} {s′} {t} {t′} e f = record {
   at = λ (l : ℕ). simp coef-append (omega (arith, e .at l, f .at l));
   level = simp weight-append (omega (arith, e .level, f .level));
 }
 
-pub same-swap : (s t : Sum) → Same (addition s t) (addition t s)
+pub same-swap : (s t : Sum) → SameSum (addition s t) (addition t s)
 same-swap s t = record {
   at = λ (l : ℕ). simp add-at (omega arith);
   level = simp (add-weight, add-bound) (omega arith);
 }
 
-pub same-assoc : (s t u : Sum) → Same (addition (addition s t) u) (addition s (addition t u))
+pub same-assoc : (s t u : Sum) → SameSum (addition (addition s t) u) (addition s (addition t u))
 same-assoc s t u = record {
   at = λ (l : ℕ). simp add-at (omega arith);
   level = simp (add-weight, add-bound) (omega arith);

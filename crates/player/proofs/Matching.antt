@@ -4,7 +4,7 @@ use mathlib.Core.List.{List, [], flatMap, List·Memᴰ, List·Nodup, Perm}
 use Prim.Native.Nat.{ℕ, _+_}
 use native.Mathlib.Omega.{arith}
 use lib.ListN.{length}
-use Rattle.memo.specs.Closure.{From, Same}
+use Rattle.memo.specs.Closure.{From, SameMembers}
 use Rattle.memo.proofs.Grow.{empty, made, Run, run-written, Matched, runs-match}
 use Rattle.memo.proofs.Lists.{flatMap-agree, flatMap-perm, length-perm}
 use Rattle.memo.proofs.Memo.{Log, Written, wrote-from, wrote-has, wrote-once, defined-from, defined-has, defined-once}
@@ -169,7 +169,7 @@ module _ (h : Head) (c d : ℕ) (cs es : List Command) (u w : State) (p : AllPas
   same-table = build-makes es [] (h .variable) ∙ ap (λ (l : List Command). build l [] (h .variable)) (sym same-makes)
       ∙ sym (build-makes cs [] (h .variable))
 
-  same-list : Same (asked cs) (asked es)
+  same-list : SameMembers (asked cs) (asked es)
   same-list x = (λ m. asked-has es x (same-asked x .0 (asked-from cs x m)), λ m. asked-has cs x (same-asked x .1 (asked-from es x m)))
 
   matched : Matched (view u) (view w)

@@ -30,15 +30,15 @@ unfolding Ascending
 ascending-low n [] a m i = absurd (List·Memᴰ·not-nil i)
 ascending-low n (k ∷ ns) a m i = ⊎-elim (λ e. omega (arith, a .0)) (λ j. omega (arith, a .0, ascending-low k ns (a .1) m j)) (List·Memᴰ·cases-cons i)
 
-abbrev Within : List ℕ → List ℕ → Type 0
-Within ns ms = (n : ℕ) → List·Memᴰ n ns → List·Memᴰ n ms
+abbrev Subset : List ℕ → List ℕ → Type 0
+Subset ns ms = (n : ℕ) → List·Memᴰ n ns → List·Memᴰ n ms
 
 -- The tails, where the heads are one.
-within-tail : (n : ℕ) (ns ms : List ℕ) → Ascending (n ∷ ns) → Within (n ∷ ns) (n ∷ ms) → Within ns ms
+within-tail : (n : ℕ) (ns ms : List ℕ) → Ascending (n ∷ ns) → Subset (n ∷ ns) (n ∷ ms) → Subset ns ms
 within-tail n ns ms a w k i =
     ⊎-elim (λ e. absurd (omega (arith, ascending-low n ns a k i))) (λ j. j) (List·Memᴰ·cases-cons (w k (List·Memᴰ·tail i)))
 
-pub ascending-same : (ns ms : List ℕ) → Ascending ns → Ascending ms → Within ns ms → Within ms ns → ns ≡ ms
+pub ascending-same : (ns ms : List ℕ) → Ascending ns → Ascending ms → Subset ns ms → Subset ms ns → ns ≡ ms
 ascending-same [] [] a b u w = refl
 ascending-same [] (m ∷ ms) a b u w = absurd (List·Memᴰ·not-nil (w m (List·Memᴰ·head refl)))
 ascending-same (n ∷ ns) [] a b u w = absurd (List·Memᴰ·not-nil (u n (List·Memᴰ·head refl)))
@@ -47,8 +47,8 @@ ascending-same (n ∷ ns) (m ∷ ms) a b u w =
     ⊎-elim (λ p. p) (λ i. ⊎-elim (λ p. sym p) (λ j. absurd (omega (arith, ascending-low m ms b n i, ascending-low n ns a m j)))
     (List·Memᴰ·cases-cons (w m (List·Memᴰ·head refl)))) (List·Memᴰ·cases-cons (u n (List·Memᴰ·head refl))) in
     let b′ : Ascending (n ∷ ms) = subst (λ (k : ℕ). Ascending (k ∷ ms)) (sym e) b in
-    let u′ : Within (n ∷ ns) (n ∷ ms) = subst (λ (k : ℕ). Within (n ∷ ns) (k ∷ ms)) (sym e) u in
-    let w′ : Within (n ∷ ms) (n ∷ ns) = subst (λ (k : ℕ). Within (k ∷ ms) (n ∷ ns)) (sym e) w in
+    let u′ : Subset (n ∷ ns) (n ∷ ms) = subst (λ (k : ℕ). Subset (n ∷ ns) (k ∷ ms)) (sym e) u in
+    let w′ : Subset (n ∷ ms) (n ∷ ns) = subst (λ (k : ℕ). Subset (k ∷ ms) (n ∷ ns)) (sym e) w in
     ap {B = List ℕ} (λ (k : ℕ). k ∷ ns) e
     ∙ ap {B = List ℕ} (λ (l : List ℕ). m ∷ l)
     (ascending-same ns ms (ascending-tail n ns a) (ascending-tail m ms b) (within-tail n ns ms a u′) (within-tail n ms ns b′ w′))

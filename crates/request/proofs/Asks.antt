@@ -13,7 +13,7 @@ use Rattle.totdb.specs.declared.Side.{Side}
 use Rattle.cert.specs.Definitions.{Direction}
 use Rattle.cert.specs.Requests.{request, needs, needsAt, below, named, Right}
 use Rattle.cert.specs.Sized.{Sized, Fit}
-use Rattle.rows.specs.Rows.{rowOf, KindOf, Bounded, Table, ShownOf, JoinOf, JoinRow, joinIn}
+use Rattle.rows.specs.Rows.{rowOf, KindOf, Bounded, Table, ShownOf, JoinOf, JoinPlace, readJoin}
 use Rattle.rows.specs.declared.Join.{Join}
 use Rattle.rows.specs.declared.Shown.{Shown}
 use Rattle.rows.proofs.Reading.{in-row, join-row, join-of-row}
@@ -113,8 +113,8 @@ module _ {t : List Node} (bd : Bounded t) where
 
 -- A join that is asked.
 module _ {ns : List ℕ} {t : List Node} (tb : Table ns t) {n v : ℕ} (w : RequestIn t n v) (z : eqb (getD ns (kindAt n) 0) 0 ≡ false) where
-  pub asked-row : JoinRow ns n
+  pub asked-row : JoinPlace ns n
   asked-row = join-row tb n (w .there) (kind-join tb n (w .there) z .4)
 
-  pub asked-join : {x : Join} → x ≡ joinIn ns n → JoinIn t x v
+  pub asked-join : {x : Join} → x ≡ readJoin ns n → JoinIn t x v
   asked-join e = rw e (record { of = join-of-row tb n (w .there) (kind-join tb n (w .there) z .4); above = w .above; within = w .within })

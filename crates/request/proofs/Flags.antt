@@ -18,7 +18,7 @@ use Rattle.cert.specs.Equal.{request-dec}
 use Rattle.cert.specs.Requests.{Request, request}
 use Rattle.cert.specs.State.{State, keys, hold}
 use Rattle.rows.specs.Rows.{Bounded, Table}
-use Rattle.define.specs.Store.{flag, direction, heldOf, IsJoin, slot, Holds}
+use Rattle.define.specs.Store.{flag, direction, heldOf, IsJoin, slot, HeldFlags}
 use Rattle.define.specs.Represents.{Memory, memory, Stores, Exact, Represents, exact, over, Simulates}
 use Rattle.define.proofs.Defines.{few-marks}
 use Rattle.define.proofs.Slots.{slot-row}
@@ -197,7 +197,7 @@ module _ {t : List Node} (bd : Bounded t) (n v : ℕ) (b : Bool) (f : Flagged t 
     elsewhere : (i : ℕ) → (i ≡ heldAt n v → ⊥) → getD (held (heldAt n v) (m .store)) i 0 ≡ getD (m .store) i 0
     elsewhere i h = getD-set-other (m .store) (heldAt n v) i (heldWith b (getD (m .store) (heldAt n v) 0)) 0 h
 
-    holds-more : Holds t (held (heldAt n v) (m .store)) (s .held ++ (request n v (direction b) ∷ []))
+    holds-more : HeldFlags t (held (heldAt n v) (m .store)) (s .held ++ (request n v (direction b) ∷ []))
     holds-more = record { is = λ i w there inner low high. by i w there inner low high (ℕ-discrete i n) (ℕ-discrete w v) }
       where
         by : (i w : ℕ) → i < length t → IsJoin (at t i) → 1 ≤ w → w ≤ width → Dec (i ≡ n) → Dec (w ≡ v)
@@ -271,7 +271,7 @@ sims-hold i v b q e a = record {
 -- ---- a leaf, whose requests have no place
 
 module _ {t : List Node} (n v : ℕ) (d : Direction) (leaf-at : IsJoin (at t n) → ⊥) where
-  holds-leaf : {store : List ℕ} {h : List Request} → Holds t store h → Holds t store (h ++ (request n v d ∷ []))
+  holds-leaf : {store : List ℕ} {h : List Request} → HeldFlags t store h → HeldFlags t store (h ++ (request n v d ∷ []))
   holds-leaf {h = h} x = record {
     is = λ i w there inner low high.
         x .is i w there inner low high ∙ sym (held-other h i w n v d (λ e g. leaf-at (subst (λ (k : ℕ). IsJoin (at t k)) e inner)));

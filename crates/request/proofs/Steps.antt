@@ -17,7 +17,7 @@ use Rattle.cert.specs.Definitions.{Direction, if, only-if}
 use Rattle.cert.specs.Equal.{request-dec}
 use Rattle.cert.specs.Requests.{request, needs, below, named, clausesOf}
 use Rattle.cert.specs.State.{State, writeClause, writeRequest, serve, requests, directions}
-use Rattle.rows.specs.Rows.{Table, joinIn}
+use Rattle.rows.specs.Rows.{Table, readJoin}
 use Rattle.rows.specs.declared.Join.{Join}
 use Rattle.rows.specs.declared.Shown.{Shown}
 use Rattle.record.proofs.Writing.{onward-then, stays}
@@ -116,7 +116,7 @@ module _ {ns : List ℕ} where
           rw (asked-held t (y .bounded .sized) (request n v (direction b)) (asked-right (y .bounded) w (direction b)) s
           (held-in (s .held) n v b (rw (held-is g y w x) at z))) (exact x))
 
-      pub node-join : {a k : Memory} {x : Join} → x ≡ joinIn ns n → m .out .at ≤ length (m .log) → eqb (getD ns (kindAt n) 0) 0 ≡ false
+      pub node-join : {a k : Memory} {x : Join} → x ≡ readJoin ns n → m .out .at ≤ length (m .log) → eqb (getD ns (kindAt n) 0) 0 ≡ false
           → isHeld b (getD (m .store) (heldAt n v) 0) ≡ false → Needs ns x v (direction b) m a → Writes ns x v (direction b) a k
           → Asks ns n v (direction b) m k
       node-join {x = x} q room g z a k = sims-open room (onward-then (a .onward) (k .onward))
@@ -158,7 +158,7 @@ module _ {ns : List ℕ} where
         (a .does c t s y w (exact x)))
         (some-held (s .held) n v (λ e. z (held-is true g y w x ∙ e))))
 
-    pub once-done : {m b : Memory} {x : Join} → x ≡ joinIn ns n → m .out .at ≤ length (m .log) → eqb (getD ns (kindAt n) 0) 0 ≡ false
+    pub once-done : {m b : Memory} {x : Join} → x ≡ readJoin ns n → m .out .at ≤ length (m .log) → eqb (getD ns (kindAt n) 0) 0 ≡ false
         → getD (m .store) (heldAt n v) 0 ≡ 0
         → Simulates ns (λ t s. JoinIn t x v) (λ t s. writeBoth t (x .node) v s) m b → Serves ns n v m b
     once-done {x = x} q room g z a = sims-open room (a .onward)

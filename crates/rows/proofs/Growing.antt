@@ -17,7 +17,7 @@ use Rattle.cert.proofs.Distinct.{true≢false, or-right}
 use Rattle.cert.proofs.Rules.{at-more, sideLen-more}
 use Rattle.cert.proofs.Tables.{at-snoc, length-snoc, old-or-new, sized-snoc, over-left}
 use Rattle.rows.specs.Windows.{SideAt, left-at, right-at}
-use Rattle.rows.specs.Rows.{rowOf, SideRow, KindOf, Row, leafLiterals, NodesIn, Bounded, Table}
+use Rattle.rows.specs.Rows.{rowOf, SideRow, KindOf, Row, leafColumn, NodesIn, Bounded, Table}
 use Rattle.rows.proofs.Sides.{side-inside, window-own}
 
 -- ---- any element of a list
@@ -181,7 +181,7 @@ module _ (t : List Node) (x : Node) (b : Bounded t) (b′ : Bounded (t ++ (x ∷
   pub table-snoc : (ns ms : List ℕ) → NodesIn ns t → rowAt (length t + 1) ≤ length ms
       → ((n : ℕ) → n < length t → rowOf ms n ≡ set (rowOf ns n) takenColumn (cond (taken (t ++ (x ∷ [])) n) 1 0))
       → Row (rowOf ms (length t)) (t ++ (x ∷ [])) (length t) x
-      → take (leafCount (t ++ (x ∷ []))) ms ≡ leafLiterals (t ++ (x ∷ [])) → Table ms (t ++ (x ∷ []))
+      → take (leafCount (t ++ (x ∷ []))) ms ≡ leafColumn (t ++ (x ∷ [])) → Table ms (t ++ (x ∷ []))
   table-snoc ns ms has room same here leaves = record {
     has = record {
       room = rw (length-snoc t x) room;

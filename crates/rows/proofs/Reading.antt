@@ -9,7 +9,7 @@ use Rattle.sizes.specs.Sizes.{mostNodes, width, row, rowAt, lengthColumn, first
 use Rattle.totdb.specs.Nodes.{Node, leaf, join, at, leaves, len, output, fromFirst, sideLen}
 use Rattle.totdb.specs.declared.Side.{Side}
 use Rattle.rows.specs.Windows.{SideAt, left-at, right-at}
-use Rattle.rows.specs.Rows.{rowOf, sideIn, SideRow, KindOf, Table, shownIn, ShownOf, SidePlace, JoinRow, JoinOf, joinIn}
+use Rattle.rows.specs.Rows.{rowOf, readSide, SideRow, KindOf, Table, readShown, ShownOf, SidePlace, JoinPlace, JoinOf, readJoin}
 use Rattle.rows.specs.declared.Shown.{Shown}
 use Rattle.rows.proofs.Sides.{side-inside, window-own}
 
@@ -50,7 +50,7 @@ from-first (join ls o l r) v a b = omega arith
 module _ {ns : List ℕ} {t : List Node} (tb : Table ns t) where
   -- A side's numbers by the place of its row in the table, from those in its node's row.
   side-row : (n q : ℕ) (s : Side) → q + sideWindowColumn < row → SideRow (rowOf ns n) t q s
-      → (sideIn ns (rowAt n + q) ≡ s) × (getD ns (rowAt n + q + sideLenColumn) 0 ≡ sideLen t s)
+      → (readSide ns (rowAt n + q) ≡ s) × (getD ns (rowAt n + q + sideLenColumn) 0 ≡ sideLen t s)
   side-row n q s h r =
       let a : rowAt n + q + 1 ≡ rowAt n + (q + 1) = omega arith in
       let b : rowAt n + q + 2 ≡ rowAt n + (q + 2) = omega arith in
@@ -65,7 +65,7 @@ module _ {ns : List ℕ} {t : List Node} (tb : Table ns t) where
       let d : rowAt n + q + sideWindowColumn ≡ rowAt n + (q + sideWindowColumn) = omega arith in
       rw (d, in-row ns n (q + sideWindowColumn) (omega arith)) (r .window)
 
-  numbers : {p w : ℕ} {s : Side} → SideAt t p w s → (sideIn ns p ≡ s) × (getD ns (p + sideLenColumn) 0 ≡ sideLen t s)
+  numbers : {p w : ℕ} {s : Side} → SideAt t p w s → (readSide ns p ≡ s) × (getD ns (p + sideLenColumn) 0 ≡ sideLen t s)
   unfolding KindOf
   numbers (left-at n ls o l r h e) =
       let k : KindOf (rowOf ns n) t (join ls o l r) = subst (KindOf (rowOf ns n) t) e (tb .has .row n h .kind) in
@@ -92,7 +92,7 @@ module _ {ns : List ℕ} {t : List Node} (tb : Table ns t) where
     node-is = ap (λ (u : Side). u .node) (numbers of .0)
 
     -- All that is read of a side.
-    pub shown-is : shownIn ns p ≡ record { side = s; len = sideLen t s; first = output (at t (s .node)) 1; window = w }
+    pub shown-is : readShown ns p ≡ record { side = s; len = sideLen t s; first = output (at t (s .node)) 1; window = w }
     shown-is =
         rw (
           numbers of .0,
@@ -108,7 +108,7 @@ module _ {ns : List ℕ} {t : List Node} (tb : Table ns t) where
       below = rw node-is (omega (arith, row-there tb (s .node) (side-inside (tb .bounded) of .0) .0));
     }
 
-    pub shown-of : ShownOf t (shownIn ns p)
+    pub shown-of : ShownOf t (readShown ns p)
     shown-of = rw shown-is (record { place = p; of = of; length = refl; first = refl })
 
 -- ---- joins
@@ -120,7 +120,7 @@ module _ {ns : List ℕ} {t : List Node} (tb : Table ns t) (n : ℕ) (h : n < le
   right-of : SideAt t (rightAt n) (rightWindow n) r
   right-of = right-at n ls o l r h e
 
-  pub join-row : JoinRow ns n
+  pub join-row : JoinPlace ns n
   join-row = record {
     there = row-there tb n h .0;
     small = row-there tb n h .1;
@@ -128,7 +128,7 @@ module _ {ns : List ℕ} {t : List Node} (tb : Table ns t) (n : ℕ) (h : n < le
     right = side-place tb right-of;
   }
 
-  pub join-of-row : JoinOf t (joinIn ns n)
+  pub join-of-row : JoinOf t (readJoin ns n)
   join-of-row =
       let a = ap (λ (s : Shown). s .side) (shown-is tb left-of) in
       let b = ap (λ (s : Shown). s .side) (shown-is tb right-of) in

@@ -17,12 +17,12 @@ use Rattle.rows.specs.declared.Shown.{Shown}
 abbrev pub rowOf : List ℕ → ℕ → List ℕ
 rowOf ns n = take row (drop (rowAt n) ns)
 
-abbrev pub sideIn : List ℕ → ℕ → Side
-sideIn r p = record { node = getD r p 0; offset = getD r (p + 1) 0; limit = getD r (p + 2) 0 }
+abbrev pub readSide : List ℕ → ℕ → Side
+readSide r p = record { node = getD r p 0; offset = getD r (p + 1) 0; limit = getD r (p + 2) 0 }
 
 -- A side's five numbers in a row: node, offset, limit; its length; the place of its window's first steps.
 pub record SideRow (r : List ℕ) (t : List Node) (p : ℕ) (s : Side) : Type 0 where
-  pub is : sideIn r p ≡ s
+  pub is : readSide r p ≡ s
   pub length : getD r (p + sideLenColumn) 0 ≡ sideLen t s
   pub window : getD r (p + sideWindowColumn) 0 ≡ windowAt t (s .node) (s .offset) (sideLen t s)
 
@@ -42,16 +42,16 @@ pub record Row (r : List ℕ) (t : List Node) (n : ℕ) (x : Node) : Type 0 wher
 -- ---- the table
 
 -- The literals of the leaves, in the order of their making.
-unfoldable pub leafLiterals : List Node → List ℕ
-leafLiterals [] = []
-leafLiterals (leaf l ∷ t) = l ∷ leafLiterals t
-leafLiterals (join ls o a b ∷ t) = leafLiterals t
+unfoldable pub leafColumn : List Node → List ℕ
+leafColumn [] = []
+leafColumn (leaf l ∷ t) = l ∷ leafColumn t
+leafColumn (join ls o a b ∷ t) = leafColumn t
 
 -- The table has the nodes t. Other numbers are left open: the sides of a leaf, what stands after a list, rows after those of t.
 pub record NodesIn (ns : List ℕ) (t : List Node) : Type 0 where
   pub room : rowAt (length t) ≤ length ns
   pub row : (n : ℕ) → n < length t → Row (rowOf ns n) t n (at t n)
-  pub leaves : take (leafCount t) ns ≡ leafLiterals t
+  pub leaves : take (leafCount t) ns ≡ leafColumn t
 
 -- What holds of the nodes alone. Each stands under one side at most. `low` keeps a literal, and the witness made of it (plus 1), in a u32.
 pub record Bounded (t : List Node) : Type 0 where
@@ -70,9 +70,9 @@ pub record Table (ns : List ℕ) (t : List Node) : Type 0 where
 -- ---- what is read
 
 -- A side by the place of its row: the side; its length; its node's output of value 1; the place of its window's first steps.
-abbrev pub shownIn : List ℕ → ℕ → Shown
-shownIn ns p = record {
-  side = sideIn ns p;
+abbrev pub readShown : List ℕ → ℕ → Shown
+readShown ns p = record {
+  side = readSide ns p;
   len = getD ns (p + sideLenColumn) 0;
   first = getD ns (firstAt (getD ns p 0)) 0;
   window = getD ns (p + sideWindowColumn) 0;
@@ -86,8 +86,8 @@ pub record ShownOf (t : List Node) (s : Shown) : Type 0 where
   pub first : s .first ≡ output (at t (s .side .node)) 1
 
 -- A join by its number: with its output of value 1 and its two sides.
-abbrev pub joinIn : List ℕ → ℕ → Join
-joinIn ns n = record { node = n; first = getD ns (firstAt n) 0; left = shownIn ns (leftAt n); right = shownIn ns (rightAt n) }
+abbrev pub readJoin : List ℕ → ℕ → Join
+readJoin ns n = record { node = n; first = getD ns (firstAt n) 0; left = readShown ns (leftAt n); right = readShown ns (rightAt n) }
 
 -- What the table has of a join of the nodes t.
 pub record JoinOf (t : List Node) (x : Join) : Type 0 where
@@ -105,7 +105,7 @@ pub record SidePlace (ns : List ℕ) (p : ℕ) : Type 0 where
   pub below : firstAt (getD ns p 0) < length ns
 
 -- A row whose two sides are such.
-pub record JoinRow (ns : List ℕ) (n : ℕ) : Type 0 where
+pub record JoinPlace (ns : List ℕ) (n : ℕ) : Type 0 where
   pub there : rowAt n + row ≤ length ns
   pub small : n < mostNodes
   pub left : SidePlace ns (leftAt n)

@@ -4,7 +4,7 @@ ghost use mathlib.Core.Path.{_≡_};
 ghost use Prim.Native.Nat.{_+_, _<_};
 ghost use lib.ListN.{length, getD};
 ghost use Rattle.sizes.specs.Sizes.{rowAt};
-ghost use Rattle.rows.specs.Rows.{shownIn, joinIn, SidePlace, JoinRow};
+ghost use Rattle.rows.specs.Rows.{readShown, readJoin, SidePlace, JoinPlace};
 
 // A side as the table has it: its length; its node's output of value 1; the place of its window's first steps, where it is a
 // window of two outputs or more.
@@ -42,7 +42,7 @@ pub fn row_at(node: usize) -> usize
 // The side whose five numbers stand at `at`.
 pub fn shown_at(nodes: &[u32], at: usize) -> Shown
     requires { ⌜ SidePlace (now nodes) at ⌝ }
-    ensures { λ r. ⌜ r ≡ shownIn (now (nodes .entry)) at ⌝ }
+    ensures { λ r. ⌜ r ≡ readShown (now (nodes .entry)) at ⌝ }
 {
     let node = number_at(nodes, at);
     let side = Side {
@@ -60,8 +60,8 @@ pub fn shown_at(nodes: &[u32], at: usize) -> Shown
 
 // A join that is there.
 pub fn join_at(nodes: &[u32], node: usize) -> Join
-    requires { ⌜ JoinRow (now nodes) node ⌝ }
-    ensures { λ r. ⌜ r ≡ joinIn (now (nodes .entry)) node ⌝ }
+    requires { ⌜ JoinPlace (now nodes) node ⌝ }
+    ensures { λ r. ⌜ r ≡ readJoin (now (nodes .entry)) node ⌝ }
 {
     let row = row_at(node);
     let left = shown_at(nodes, row + sizes::LEFT);

@@ -1,4 +1,5 @@
--- The limits that the code tests, the sizes of its tables and the places in them, for contracts. `src/lib.rt` has the constants.
+-- The limits of a script and a log, the sizes of the code's tables and the places in them, for definitions and contracts. `src/lib.rt` has
+-- the constants.
 use Prim.Native.Nat.{ℕ, _+_, _*_}
 
 -- ---- limits
@@ -105,9 +106,6 @@ rightAt n = rowAt n + rightColumn
 abbrev pub listAt : ℕ → ℕ
 listAt n = rowAt n + listColumn
 
-abbrev pub nodesSize : ℕ
-nodesSize = rowAt mostNodes
-
 -- ---- the store: the places of the stored definitions in the order of their writing, then a row for each node
 
 -- No definition takes fewer than eight bytes of a log.
@@ -140,6 +138,3 @@ rightWindow n = storeAt n + rightWindowColumn
 
 abbrev pub heldAt : ℕ → ℕ → ℕ
 heldAt n v = storeAt n + heldColumn + v
-
-abbrev pub storeSize : ℕ
-storeSize = storeAt mostNodes

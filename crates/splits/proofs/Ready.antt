@@ -15,7 +15,7 @@ use Rattle.totdb.proofs.Sides.{plain-keyed}
 use Rattle.cert.specs.Definitions.{sideDef}
 use Rattle.cert.specs.Requests.{Clause, definition}
 use Rattle.cert.specs.State.{State, Stored, stepIn}
-use Rattle.derivation.specs.Operands.{operand, part, wholeNumbers}
+use Rattle.derivation.specs.Operands.{operand, part, clauseRoom, wholeNumbers}
 use Rattle.derivation.specs.declared.Part.the-variants.{Literal}
 use Rattle.derivation.specs.declared.Whole.{Whole}
 use Rattle.derivation.specs.declared.SemDefinition.the-variants.{Step}
@@ -26,7 +26,7 @@ use Rattle.rows.specs.declared.Shown.{Shown}
 use Rattle.define.specs.Store.{direction}
 use Rattle.define.specs.Lookups.{SideIn}
 use Rattle.clauses.specs.Firsts.{realStep, FirstsOf, hasFirst, sideStored, sidesStored}
-use Rattle.clauses.specs.Joins.{Within}
+use Rattle.clauses.specs.Joins.{ClauseValue}
 use Rattle.clauses.proofs.Joins.{plain-operand}
 use Rattle.clauses.proofs.Stored.{long-stored, plain-first}
 use Rattle.clauses.proofs.Written.{clauseRecords, clause-puts}
@@ -42,7 +42,7 @@ pub long-sides : (x : Join) → areLong x ≡ true → (isLong (x .left) ≡ tru
 unfolding areLong
 long-sides x h = both-true (isLong (x .left)) _ h
 
-pub both-parts : {x : Join} {i j : ℕ} (b : Bool) → areLong x ≡ true → hasBoth x i j b ≡ true → Within b (x .left .len) i → Within b (x .right .len) j
+pub both-parts : {x : Join} {i j : ℕ} (b : Bool) → areLong x ≡ true → hasBoth x i j b ≡ true → ClauseValue b (x .left .len) i → ClauseValue b (x .right .len) j
     → BothParts x i j
 unfolding hasBoth
 both-parts {x} {i} {j} true l h p q =
@@ -67,7 +67,7 @@ both-parts {x} {i} {j} false l h p q =
 pub record Readied (store : List ℕ) (n at : ℕ) (x : Join) (v i j : ℕ) (b long : Bool) : Type 0 where
   pub long-is : long ≡ true
   pub both : hasBoth x i j b ≡ true
-  pub room : at + 85 ≤ n
+  pub room : at + clauseRoom ≤ n
   pub this : hasFirst store (storeAt (x .node) + v) ≡ true
   pub left : hasFirst store (storeAt (x .left .side .node) + i) ≡ true
   pub right : hasFirst store (storeAt (x .right .side .node) + j) ≡ true
@@ -78,10 +78,10 @@ unfolding isReady
 readied {store} {n} {at} {x} {v} {i} {j} {b} {long} h =
     let p = both-true long _ h in
     let q = both-true (hasBoth x i j b) _ (p .1) in
-    let r = both-true (leb (at + 85) n) _ (q .1) in
+    let r = both-true (leb (at + clauseRoom) n) _ (q .1) in
     let f = both-true (hasFirst store (storeAt (x .node) + v)) _ (r .1) in
     let g = both-true (hasFirst store (storeAt (x .left .side .node) + i)) _ (f .1) in
-    record { long-is = p .0; both = q .0; room = leb-true (at + 85) n (r .0); this = f .0; left = g .0; right = g .1 }
+    record { long-is = p .0; both = q .0; room = leb-true (at + clauseRoom) n (r .0); this = f .0; left = g .0; right = g .1 }
 
 -- ---- what the sides look up is stored
 

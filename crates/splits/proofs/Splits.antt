@@ -17,7 +17,7 @@ use Rattle.rows.specs.declared.Join.{Join}
 use Rattle.define.specs.Store.{direction}
 use Rattle.define.specs.Represents.{Memory, Represented, Simulates}
 use Rattle.define.proofs.Simulates.{sims-none, sims-then, sims-under, sims-same}
-use Rattle.clauses.specs.Joins.{JoinIn, ClauseIn, Within, clauseOf, clausePart, lastLiteral}
+use Rattle.clauses.specs.Joins.{JoinIn, ClauseIn, ClauseValue, clauseOf, clausePart, lastLiteral}
 use Rattle.splits.specs.Splits.{splitSum, leftValue}
 use Rattle.clauses.proofs.Joins.{join-fits}
 
@@ -62,13 +62,13 @@ split-in {x} {v} {b} {low} {high} w a h k e t i = record {
 }
   where
     left-within : (b : Bool) → high ≡ min (splitSum v b) (x .left .len)
-        → Within b (x .left .len) (leftValue a b)
+        → ClauseValue b (x .left .len) (leftValue a b)
     left-within true e = record { above = λ _. omega arith; below = λ f. absurd (true≢false f); top = omega arith }
     left-within false e = record { above = λ f. absurd (true≢false (sym f)); below = λ _. omega arith; top = omega arith }
 
     right-within : (b : Bool) → 1 ≤ v → low ≡ splitSum v b - x .right .len
         → high ≡ min (splitSum v b) (x .left .len)
-        → Within b (x .right .len) (v - a)
+        → ClauseValue b (x .right .len) (v - a)
     right-within true g d e = record { above = λ _. omega arith; below = λ f. absurd (true≢false f); top = omega arith }
     right-within false g d e = record { above = λ f. absurd (true≢false (sym f)); below = λ _. omega arith; top = omega arith }
 

@@ -6,6 +6,7 @@ use Prim.Native.Nat.{ℕ, _+_, _≤_}
 use lib.Dec.{leb, ltb}
 use Rattle.sizes.specs.Sizes.{storeAt}
 use Rattle.totdb.specs.Nodes.{plainOr}
+use Rattle.derivation.specs.Operands.{clauseRoom}
 use Rattle.rows.specs.declared.Join.{Join}
 use Rattle.rows.specs.declared.Shown.{Shown}
 use Rattle.clauses.specs.Firsts.{hasFirst}
@@ -37,6 +38,6 @@ unfolding hasBoth
 isReady store n at x v i j b long =
     long
     && (hasBoth x i j b
-    && (leb (at + 85) n
+    && (leb (at + clauseRoom) n
     && (hasFirst store (storeAt (x .node) + v)
     && (hasFirst store (storeAt (x .left .side .node) + i) && hasFirst store (storeAt (x .right .side .node) + j)))))

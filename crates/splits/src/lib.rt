@@ -13,6 +13,7 @@ ghost use Rattle.memo.specs.Visit.{each};
 ghost use Rattle.totdb.specs.Nodes.{Node};
 ghost use Rattle.cert.specs.Requests.{request, clausesOf};
 ghost use Rattle.cert.specs.State.{writeClause, write};
+ghost use Rattle.derivation.specs.Operands.{clauseRoom};
 ghost use Rattle.rows.specs.Rows.{Bounded};
 ghost use Rattle.define.specs.Store.{direction};
 ghost use Rattle.define.specs.Represents.{memory, Represented, Simulates};
@@ -174,7 +175,7 @@ fn push_split(
     j: usize,
     only_if: bool,
 ) -> Out
-    requires { ⌜ BothParts x i j × (o .at + 85 ≤ length (now log)) ⌝ }
+    requires { ⌜ BothParts x i j × (o .at + clauseRoom ≤ length (now log)) ⌝ }
     requires { ⌜ ((ns : List ℕ) × Represented ns (λ t s. ClauseIn t x value i j «only_if») (memory (now store) (now log) o)) ⌝ }
     ensures { λ r. ⌜ ((ns : List ℕ) → Simulates ns (λ t s. ClauseIn t x value i j «only_if»)
         (λ t s. write t (clauseOf t x value i j «only_if») s)

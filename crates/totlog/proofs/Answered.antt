@@ -6,22 +6,23 @@ use native.Mathlib.Omega.{arith}
 use borrow.Rule.Slice.PartMut.{midOf, putMid, mid-len, post-is}
 use lib.ListN.{length, take, replicate, take-append-drop}
 use lib.Seq.{take-at, drop-length}
+use Rattle.sizes.specs.Sizes.{mostNodes}
 use Rattle.record.specs.Record.{bytes, steps}
 use Rattle.cert.specs.State.{Head, start}
 use Rattle.player.specs.Player.{outcome, Outcome, plays, Padded}
 use Rattle.player.specs.Script.{Commands}
 use Rattle.totlog.specs.Entry.{answerAfter, answerOf, Finished, Tells}
 use Rattle.answer.specs.declared.Answer.{Answer}
-use Rattle.totlog.specs.declared.Ending.{Ending}
+use Rattle.totlog.specs.declared.PlayEnd.{PlayEnd}
 
-module _ {h : Head} {c : ℕ} {cs : Commands} {log : List ℕ} {r : Ending} (f : Finished h c cs log r) where
+module _ {h : Head} {c : ℕ} {cs : Commands} {log : List ℕ} {r : PlayEnd} (f : Finished h c cs log r) where
   pub finished-step : h .step ≤ r .totals .out .step
   finished-step = omega (arith, f .reported .step, f .counted)
 
   pub finished-at : r .totals .out .at ≤ c
   finished-at = omega (arith, f .reported .used, f .fits)
 
-  pub finished-nodes : r .totals .nodes ≤ 319
+  pub finished-nodes : r .totals .nodes ≤ mostNodes
   finished-nodes = omega (arith, f .reported .nodes, f .few)
 
   answer-is : answerAfter (h .step) r ≡ answerOf (outcome c (r .number) (r .place) (f .state))

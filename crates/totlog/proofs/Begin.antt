@@ -12,7 +12,7 @@ use Rattle.totdb.specs.Nodes.{leafCount}
 use Rattle.cert.specs.State.{Head, start, keys, fromIn}
 use Rattle.cert.proofs.Tables.{sized-nil}
 use Rattle.rows.specs.Windows.{SideAt, left-at, right-at}
-use Rattle.rows.specs.Rows.{leafLiterals, Table}
+use Rattle.rows.specs.Rows.{leafColumn, Table}
 use Rattle.define.specs.Store.{slot}
 use Rattle.define.specs.Represents.{memory, Exact}
 use Rattle.player.proofs.Formed.{formed-start, head-low}
@@ -36,7 +36,7 @@ table-none ns h = record {
   has = record {
     room = h;
     row = λ n h. absurd (omega arith);
-    leaves = unfold leafCount leafLiterals in refl;
+    leaves = unfold leafCount leafColumn in refl;
   };
   bounded = record {
     few = omega arith;

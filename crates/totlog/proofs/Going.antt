@@ -17,11 +17,11 @@ use Rattle.player.proofs.NodeBytes.{Took, took-on}
 use Rattle.player.proofs.Refusal.{play-refused, plays-done, plays-ended, plays-accepted, plays-refused}
 use Rattle.player.proofs.Tree.{few-nodes}
 use Rattle.commands.specs.Standing.{Standing, Room, Reported, Played, went, stopped}
-use Rattle.commands.specs.declared.Ended.{Ended}
+use Rattle.commands.specs.declared.CommandEnd.{CommandEnd}
 use Rattle.commands.specs.declared.Totals.{Totals}
-use Rattle.commands.proofs.Ends.{fits, reported}
+use Rattle.commands.proofs.CommandEnds.{fits, reported}
 use Rattle.totlog.specs.Entry.{Rows, Finished}
-use Rattle.totlog.specs.declared.Ending.{Ending}
+use Rattle.totlog.specs.declared.PlayEnd.{PlayEnd}
 use Rattle.totlog.proofs.Next.{After, rest-end, rest-refuse, rest-command}
 
 abbrev playsAll : Head → ℕ → Commands → ℕ → State → Outcome
@@ -41,7 +41,7 @@ module _ {h : Head} {c : ℕ} {script : List ℕ} {cs : Commands} {ns store log 
     (inside : at ≤ length script) (g : Going h c script cs ns store log z at place closed) where
   -- It ends in the state that the tables represent.
   ends-here : (n p : ℕ) → playsAll h c (readCommands (g .fuel) closed (drop at script)) place (g .state) ≡ outcome c n p (g .state)
-      → (log′ : List ℕ) (z′ : Totals) → Reported c log′ z′ (g .state) → (r : Ending) → r .number ≡ n → r .place ≡ p → r .totals ≡ z′
+      → (log′ : List ℕ) (z′ : Totals) → Reported c log′ z′ (g .state) → (r : PlayEnd) → r .number ≡ n → r .place ≡ p → r .totals ≡ z′
       → Finished h c cs log′ r
   ends-here n p e log′ z′ rep r a b d = record {
     state = g .state;
@@ -55,13 +55,13 @@ module _ {h : Head} {c : ℕ} {script : List ℕ} {cs : Commands} {ns store log 
   now-reported : Reported c log z (g .state)
   now-reported = reported (g .standing)
 
-  pub finished : nextAt closed script at ≡ CommandReading.End → (r : Ending) → r .number ≡ 0 → r .place ≡ place → r .totals ≡ z → Finished h c cs log r
+  pub finished : nextAt closed script at ≡ CommandReading.End → (r : PlayEnd) → r .number ≡ 0 → r .place ≡ place → r .totals ≡ z → Finished h c cs log r
   finished e r a b d =
       ends-here 0 place
       (ap (λ (k : Commands). playsAll h c k place (g .state)) (rest-end script closed at (g .fuel) inside (g .enough) e)
       ∙ (unfold stop in plays-done h c 0 place (g .state))) log z now-reported r a b d
 
-  pub stopped-reading : (n : ℕ) → nextAt closed script at ≡ CommandReading.Refuse n → (r : Ending) → r .number ≡ n → r .place ≡ place + 1
+  pub stopped-reading : (n : ℕ) → nextAt closed script at ≡ CommandReading.Refuse n → (r : PlayEnd) → r .number ≡ n → r .place ≡ place + 1
       → r .totals ≡ z → Finished h c cs log r
   stopped-reading n e r a b d =
       let q = rest-refuse script closed at (g .fuel) inside (g .enough) n e in
@@ -102,7 +102,7 @@ module _ {h : Head} {c : ℕ} {script : List ℕ} {cs : Commands} {ns store log 
         }) in
         record { row = omega (arith, r .row, a, st .nodes, t .counted); store-row = omega (arith, r .store-row, b, st .nodes, t .counted) }
 
-    module _ {ns′ store′ log′ : List ℕ} {x : Ended} (p : Played h c k (g .state) ns′ store′ log′ x) where
+    module _ {ns′ store′ log′ : List ℕ} {x : CommandEnd} (p : Played h c k (g .state) ns′ store′ log′ x) where
       pub goes-on : x .number ≡ 0 → (place′ : ℕ) → place′ ≡ place + 1 → (closed′ : Bool) → closed′ ≡ closes k
           → Going h c script cs ns′ store′ log′ (x .totals) e place′ closed′
       goes-on zero-number place′ a closed′ b = by p
@@ -120,7 +120,7 @@ module _ {h : Head} {c : ℕ} {script : List ℕ} {cs : Commands} {ns store log 
           }
           by (stopped n q m r) = absurd (omega (arith, play-refused h c k (g .state) n q))
 
-      pub stops : ¬ (x .number ≡ 0) → (r : Ending) → r .number ≡ x .number → r .place ≡ place + 1 → r .totals ≡ x .totals → Finished h c cs log′ r
+      pub stops : ¬ (x .number ≡ 0) → (r : PlayEnd) → r .number ≡ x .number → r .place ≡ place + 1 → r .totals ≡ x .totals → Finished h c cs log′ r
       stops some r a b d = by p
         where
           by : Played h c k (g .state) ns′ store′ log′ x → Finished h c cs log′ r

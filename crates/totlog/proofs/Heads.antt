@@ -6,6 +6,7 @@ use Prim.Native.Nat.{ℕ, _≤_, _<_}
 use native.Mathlib.Omega.{arith}
 use borrow.Author.Tests.{le-leb, lt-leb}
 use lib.ListN.{length}
+use Rattle.sizes.specs.Sizes.{mostHead}
 use Rattle.number.specs.Number.{groups, readAt}
 use Rattle.number.specs.declared.Reading.{Reading}
 use Rattle.number.specs.declared.Reading.the-variants.{Number, Bad}
@@ -58,23 +59,23 @@ module _ (bs : List ℕ) (c : ℕ) where
 
 -- The limits of the head, one by one.
 module _ (v n : ℕ) where
-  pub variable-high : 1000000 < v → headFits (record { variable = v; step = n }) ≡ false
+  pub variable-high : mostHead < v → headFits (record { variable = v; step = n }) ≡ false
   unfolding headFits
-  variable-high p = rw (lt-leb v 1000000 p)
+  variable-high p = rw (lt-leb v mostHead p)
 
-  module _ (low : v ≤ 1000000) where
+  module _ (low : v ≤ mostHead) where
     pub step-zero : n ≡ 0 → headFits (record { variable = v; step = n }) ≡ false
     unfolding headFits
-    step-zero p = rw (le-leb v 1000000 low, lt-leb 1 n (omega arith))
+    step-zero p = rw (le-leb v mostHead low, lt-leb 1 n (omega arith))
 
     module _ (some : 1 ≤ n) where
-      pub step-high : 1000000 < n → headFits (record { variable = v; step = n }) ≡ false
+      pub step-high : mostHead < n → headFits (record { variable = v; step = n }) ≡ false
       unfolding headFits
-      step-high p = rw (le-leb v 1000000 low, le-leb 1 n some, lt-leb n 1000000 p)
+      step-high p = rw (le-leb v mostHead low, le-leb 1 n some, lt-leb n mostHead p)
 
-      pub head-fits : n ≤ 1000000 → headFits (record { variable = v; step = n }) ≡ true
+      pub head-fits : n ≤ mostHead → headFits (record { variable = v; step = n }) ≡ true
       unfolding headFits
-      head-fits p = rw (le-leb v 1000000 low, le-leb 1 n some, le-leb n 1000000 p)
+      head-fits p = rw (le-leb v mostHead low, le-leb 1 n some, le-leb n mostHead p)
 
 -- ---- the place after the head
 

@@ -14,7 +14,7 @@ use Rattle.player.specs.Player.{Outcome, outcome, plays, headFits, played}
 use Rattle.player.specs.Script.{Commands, readCommands}
 use Rattle.commands.specs.Standing.{Standing, Room, Reported}
 use Rattle.commands.specs.declared.Totals.{Totals}
-use Rattle.totlog.specs.declared.Ending.{Ending}
+use Rattle.totlog.specs.declared.PlayEnd.{PlayEnd}
 
 -- ---- the answer
 
@@ -29,7 +29,7 @@ answerOf o = record {
 }
 
 -- The same of a play that has ended, where the first step is `step`.
-abbrev pub answerAfter : ℕ → Ending → Answer
+abbrev pub answerAfter : ℕ → PlayEnd → Answer
 answerAfter step r = record {
   number = r .number;
   place = r .place;
@@ -87,7 +87,7 @@ pub record Begun (ns store log : List ℕ) (z : Totals) : Type 0 where
   pub standing : Standing head capacity ns (memory store log (z .out)) z (start head)
 
 -- A play that has ended in a state, which the log and the totals report.
-pub record Finished (h : Head) (c : ℕ) (cs : Commands) (log : List ℕ) (r : Ending) : Type 0 where
+pub record Finished (h : Head) (c : ℕ) (cs : Commands) (log : List ℕ) (r : PlayEnd) : Type 0 where
   pub state : State
   pub is : plays h c (cs .ending) (cs .list) 0 (start h) ≡ outcome c (r .number) (r .place) state
   pub reported : Reported c log (r .totals) state

@@ -32,7 +32,7 @@ pub record Bounds (row outputs : List ℕ) (offset len : ℕ) : Type 0 where
   pub handed : Handed row outputs at-step node of offset len
 
 -- A value of a window.
-pub record Within (offset len value : ℕ) : Type 0 where
+pub record WindowValue (offset len value : ℕ) : Type 0 where
   pub above : offset < value
   pub below : value ≤ offset + len
 

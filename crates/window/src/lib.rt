@@ -9,7 +9,7 @@ ghost use Rattle.record.specs.Record.{derivation, numbers, tokenNumbers};
 ghost use Rattle.record.specs.Writing.{buffer, Puts};
 ghost use Rattle.totdb.specs.Nodes.{Node, range};
 ghost use Rattle.cert.specs.Definitions.{Key, keyRecords, window, windowIf, windowOnlyIf, windowPair};
-ghost use Rattle.window.specs.Window.{added, addedRoom, Bounds, derivationRoom, firstOther, Handed, summand, summandRoom, tokensOf, Within};
+ghost use Rattle.window.specs.Window.{added, addedRoom, Bounds, derivationRoom, firstOther, Handed, summand, summandRoom, tokensOf, WindowValue};
 
 // No derivation takes more bytes: kind and count, and a summand of nine numbers for each value, in five bytes each.
 const DERIVATION_ROOM: usize = 2890;
@@ -28,7 +28,7 @@ fn first_other(offset: usize, value: usize) -> usize
 
 // How many tokens a derivation of `value` has: a literal or five for each other value, and the additions between them.
 fn count_tokens(offset: usize, len: usize, value: usize, only_if: bool) -> u32
-    requires { ⌜ (offset + len ≤ width) × (1 < len) × Within offset len value ⌝ }
+    requires { ⌜ (offset + len ≤ width) × (1 < len) × WindowValue offset len value ⌝ }
     ensures { λ r. ⌜ ((at-step : Key → ℕ → ℕ) (n : ℕ) (x : Node) → r ≡ length (tokensOf «only_if» at-step n x offset len value)) ⌝ }
 {
     let below = value - offset - 1;
@@ -49,10 +49,10 @@ fn push_summand(
     s: usize,
     only_if: bool,
 ) -> usize
-    requires { ⌜ ((f m : ℕ) × Bounds (now row) (now outputs) f m × Within f m value × Within f m s) ⌝ }
+    requires { ⌜ ((f m : ℕ) × Bounds (now row) (now outputs) f m × WindowValue f m value × WindowValue f m s) ⌝ }
     requires { ⌜ at + summandRoom ≤ length (now log) ⌝ }
     ensures { λ r. ⌜ ((at-step : Key → ℕ → ℕ) (n : ℕ) (x : Node) (f m : ℕ)
-        → Handed (now (row .entry)) (now (outputs .entry)) at-step n x f m → Within f m value → Within f m s
+        → Handed (now (row .entry)) (now (outputs .entry)) at-step n x f m → WindowValue f m value → WindowValue f m s
         → Puts (buffer (now (log .entry)) at) (tokenNumbers (summand «only_if» at-step n x value s)) (buffer (now (log .exit)) r)) ⌝ }
     ensures { λ r. ⌜ r ≤ at + summandRoom ⌝ }
 {
@@ -77,10 +77,10 @@ fn push_added(
     s: usize,
     only_if: bool,
 ) -> usize
-    requires { ⌜ ((f m : ℕ) × Bounds (now row) (now outputs) f m × Within f m value × Within f m s) ⌝ }
+    requires { ⌜ ((f m : ℕ) × Bounds (now row) (now outputs) f m × WindowValue f m value × WindowValue f m s) ⌝ }
     requires { ⌜ at + addedRoom ≤ length (now log) ⌝ }
     ensures { λ r. ⌜ ((at-step : Key → ℕ → ℕ) (n : ℕ) (x : Node) (f m : ℕ)
-        → Handed (now (row .entry)) (now (outputs .entry)) at-step n x f m → Within f m value → Within f m s
+        → Handed (now (row .entry)) (now (outputs .entry)) at-step n x f m → WindowValue f m value → WindowValue f m s
         → Puts (buffer (now (log .entry)) at) (tokenNumbers (added (summand «only_if» at-step n x value) s)) (buffer (now (log .exit)) r)) ⌝ }
     ensures { λ r. ⌜ r ≤ at + addedRoom ⌝ }
 {
@@ -103,7 +103,7 @@ fn push_rest(
     first: usize,
     only_if: bool,
 ) -> usize
-    requires { ⌜ Bounds (now row) (now outputs) offset len × Within offset len value × Within offset len first ⌝ }
+    requires { ⌜ Bounds (now row) (now outputs) offset len × WindowValue offset len value × WindowValue offset len first ⌝ }
     requires { ⌜ at + addedRoom * (offset + len - first) ≤ length (now log) ⌝ }
     ensures { λ r. ⌜ ((at-step : Key → ℕ → ℕ) (n : ℕ) (x : Node)
         → Handed (now (row .entry)) (now (outputs .entry)) at-step n x offset len
@@ -130,7 +130,7 @@ fn push_derivation(
     value: usize,
     only_if: bool,
 ) -> usize
-    requires { ⌜ Bounds (now row) (now outputs) offset len × Within offset len value ⌝ }
+    requires { ⌜ Bounds (now row) (now outputs) offset len × WindowValue offset len value ⌝ }
     requires { ⌜ at + derivationRoom ≤ length (now log) ⌝ }
     ensures { λ r. ⌜ ((at-step : Key → ℕ → ℕ) (n : ℕ) (x : Node)
         → Handed (now (row .entry)) (now (outputs .entry)) at-step n x offset len
@@ -165,7 +165,7 @@ fn put_last_derivation(
     value: usize,
     only_if: bool,
 ) -> usize
-    requires { ⌜ Bounds (now row) (now outputs) offset len × Within offset len value ⌝ }
+    requires { ⌜ Bounds (now row) (now outputs) offset len × WindowValue offset len value ⌝ }
     ensures { λ r. ⌜ ((at-step : Key → ℕ → ℕ) (n : ℕ) (x : Node)
         → Handed (now (row .entry)) (now (outputs .entry)) at-step n x offset len
         → Puts (buffer (now (log .entry)) at) (numbers (derivation (tokensOf «only_if» at-step n x offset len value))) (buffer (now (log .exit)) r)) ⌝ }
@@ -186,7 +186,7 @@ fn put_derivation(
     value: usize,
     only_if: bool,
 ) -> usize
-    requires { ⌜ Bounds (now row) (now outputs) offset len × Within offset len value ⌝ }
+    requires { ⌜ Bounds (now row) (now outputs) offset len × WindowValue offset len value ⌝ }
     ensures { λ r. ⌜ ((at-step : Key → ℕ → ℕ) (n : ℕ) (x : Node)
         → Handed (now (row .entry)) (now (outputs .entry)) at-step n x offset len
         → Puts (buffer (now (log .entry)) at) (numbers (derivation (tokensOf «only_if» at-step n x offset len value))) (buffer (now (log .exit)) r)) ⌝ }
@@ -207,7 +207,7 @@ fn put_window_if(
     len: usize,
     value: usize,
 ) -> usize
-    requires { ⌜ Bounds (now row) (now outputs) offset len × Within offset len value ⌝ }
+    requires { ⌜ Bounds (now row) (now outputs) offset len × WindowValue offset len value ⌝ }
     ensures { λ r. ⌜ ((at-step : Key → ℕ → ℕ) (n : ℕ) (x : Node)
         → Handed (now (row .entry)) (now (outputs .entry)) at-step n x offset len
         → Puts (buffer (now (log .entry)) at) (numbers (windowIf at-step n x offset len value)) (buffer (now (log .exit)) r)) ⌝ }
@@ -225,7 +225,7 @@ fn put_window_only_if(
     len: usize,
     value: usize,
 ) -> usize
-    requires { ⌜ Bounds (now row) (now outputs) offset len × Within offset len value ⌝ }
+    requires { ⌜ Bounds (now row) (now outputs) offset len × WindowValue offset len value ⌝ }
     ensures { λ r. ⌜ ((at-step : Key → ℕ → ℕ) (n : ℕ) (x : Node)
         → Handed (now (row .entry)) (now (outputs .entry)) at-step n x offset len
         → Puts (buffer (now (log .entry)) at) (numbers (windowOnlyIf at-step n x offset len value)) (buffer (now (log .exit)) r)) ⌝ }

@@ -8,14 +8,14 @@ use borrow.Author.Needs.{needs}
 use lib.ListN.{length, take}
 use Rattle.totdb.specs.Nodes.{Node}
 use Rattle.cert.specs.State.{Stored, storedSteps}
-use Rattle.closing.specs.Closing.{Listed}
+use Rattle.closing.specs.Closing.{MarkedKeys}
 use Rattle.closing.proofs.Marks.{mark-there, mark-is, length-more, all-marks}
 use Rattle.closing.proofs.count_stored.Statement.{statement}
 use Rattle.closing.proofs.count_stored.Tie as tie
 
 abbrev Inv-loop : tie.InvT-loop
 Inv-loop nodes store marks n₀ i₀ n i =
-    (i ≤ marks) × (n ≤ 129 * i) × ((t : List Node) (es : List Stored) → Listed nodes store marks t es → n ≡ length (storedSteps t (take i es)))
+    (i ≤ marks) × (n ≤ 129 * i) × ((t : List Node) (es : List Stored) → MarkedKeys nodes store marks t es → n ≡ length (storedSteps t (take i es)))
 
 abbrev μ-loop : tie.MeasureT-loop
 μ-loop nodes store marks n₀ i₀ n i = marks - i

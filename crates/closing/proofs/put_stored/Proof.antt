@@ -10,7 +10,7 @@ use Rattle.record.specs.Writing.{buffer, Puts}
 use Rattle.record.proofs.Writing.{after, nothing}
 use Rattle.totdb.specs.Nodes.{Node}
 use Rattle.cert.specs.State.{Stored, storedSteps}
-use Rattle.closing.specs.Closing.{Listed}
+use Rattle.closing.specs.Closing.{MarkedKeys}
 use Rattle.closing.proofs.Marks.{mark-there, mark-is, mark-inside, first-is, first-low, steps-more, all-marks}
 use Rattle.closing.proofs.put_stored.Statement.{statement}
 use Rattle.closing.proofs.put_stored.Tie as tie
@@ -18,7 +18,7 @@ use Rattle.closing.proofs.put_stored.Tie as tie
 abbrev Inv-loop : tie.InvT-loop
 Inv-loop nodes store log₀ at marks end₀ i₀ log end i =
     (i ≤ marks) × (length log ≡ length log₀)
-    × ((t : List Node) (es : List Stored) → Listed nodes store marks t es → Puts (buffer log₀ at) (storedSteps t (take i es)) (buffer log end))
+    × ((t : List Node) (es : List Stored) → MarkedKeys nodes store marks t es → Puts (buffer log₀ at) (storedSteps t (take i es)) (buffer log end))
 
 abbrev μ-loop : tie.MeasureT-loop
 μ-loop nodes store log₀ at marks end₀ i₀ log end i = marks - i

@@ -2,7 +2,7 @@ use mathlib.Core.Path.{sym, _∙_, ap, refl}
 use native.Mathlib.Omega.{arith}
 use Prim.Native.Nat.{_+_}
 use Rattle.player.specs.declared.Command.{Command}
-use Rattle.commands.proofs.Ends.{refused-early}
+use Rattle.commands.proofs.CommandEnds.{refused-early}
 use Rattle.commands.proofs.Making.{joinable, joined-short, join-made}
 use borrow.Author.Needs.{needs}
 use Rattle.commands.proofs.join.Statement.{statement}

@@ -5,7 +5,7 @@ use Rattle.pb.specs.Sum.{variable}
 use Rattle.player.specs.declared.Command.{Command}
 use Rattle.player.proofs.Lengths.{leaves-few, leaves-full}
 use Rattle.commands.proofs.Questions.{leaf-6, leaf-known, leaf-negated}
-use Rattle.commands.proofs.Ends.{refused-early}
+use Rattle.commands.proofs.CommandEnds.{refused-early}
 use Rattle.commands.proofs.Making.{leaf-there, leafable, leaf-made}
 use borrow.Author.Needs.{needs}
 use Rattle.commands.proofs.leaf.Statement.{statement}

@@ -1,7 +1,7 @@
 use mathlib.Core.Path.{sym, _∙_, refl}
 use native.Mathlib.Omega.{arith}
 use Rattle.player.specs.declared.Command.{Command}
-use Rattle.commands.proofs.Ends.{refused-early}
+use Rattle.commands.proofs.CommandEnds.{refused-early}
 use Rattle.commands.proofs.Writes.{fitting, request-shown, requested}
 use borrow.Author.Needs.{needs}
 use Rattle.commands.proofs.request.Statement.{statement}

@@ -15,8 +15,8 @@ push-requires-2 c κs = search needs
 cast-push : tie.Need-cast-push
 cast-push c = search needs
 
-kept-requires : tie.Need-kept-requires
-kept-requires c κs = search needs
+count-kept-requires : tie.Need-count-kept-requires
+count-kept-requires c κs = search needs
 
 add-push : tie.Need-add-push
 add-push c = search needs
@@ -48,7 +48,7 @@ returns c =
       rw (← sum-is (a .s .witness) (a .negated) (a .l .now) (a .s .own) (a .s .literal))
           (after (kind .push .ensures .0)
           (after (witness .push2 .ensures .0)
-          (after (rw (count .before .kept .ensures) at (count .push3 .ensures .0))
+          (after (rw (count .before .count-kept .ensures) at (count .push3 .ensures .0))
           (after (units .push-units .ensures .0) (after (own .push-kept .ensures .0) (bound .push4 .ensures .0)))))),
       omega (arith, kind .push .ensures .1, witness .push2 .ensures .1, count .push3 .ensures .1, units .push-units .ensures .1, own .push-kept .ensures .1, bound .push4 .ensures .1),
     )
@@ -60,7 +60,7 @@ push-sum-spec =
     push-requires
     push-requires-2
     cast-push
-    kept-requires
+    count-kept-requires
     add-push
     push-requires-3
     push-units-requires

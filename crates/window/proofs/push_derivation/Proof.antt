@@ -2,7 +2,7 @@
 use borrow.Author.Needs.{needs}
 use native.Mathlib.Omega.{arith}
 use Rattle.record.proofs.Writing.{after}
-use Rattle.window.specs.Window.{Within}
+use Rattle.window.specs.Window.{WindowValue}
 use Rattle.window.proofs.Windows.{derivation-is}
 use Rattle.window.proofs.push_derivation.Statement.{statement}
 use Rattle.window.proofs.push_derivation.Tie as tie
@@ -57,7 +57,7 @@ returns c =
     let a = start .args in
     let bounds = start .pre .0 .0 in
     let value = start .pre .0 .1 in
-    let within : Within (a .offset) (a .len) (first .result) = record { above = first .ensures .1; below = omega (arith, first .ensures .2) } in (
+    let within : WindowValue (a .offset) (a .len) (first .result) = record { above = first .ensures .1; below = omega (arith, first .ensures .2) } in (
       (λ at-step n x handed.
           rw (← derivation-is (a .only-if) at-step n x (a .value) (a .offset) (a .len) (value .above) (value .below) (bounds .several) (first .result) (first .ensures .0))
           (after (kind .push .ensures .0)

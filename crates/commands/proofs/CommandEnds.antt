@@ -17,8 +17,8 @@ use Rattle.player.specs.Player.{firstNo, questions, act}
 use Rattle.player.specs.declared.Command.{Command}
 use Rattle.player.proofs.Formed.{formed-act}
 use Rattle.player.proofs.Refusal.{play-stops, play-goes, play-over}
-use Rattle.commands.specs.Standing.{Standing, Reported, Played, went, stopped, endedAs}
-use Rattle.commands.specs.declared.Ended.{Ended}
+use Rattle.commands.specs.Standing.{Standing, Reported, Played, went, stopped, endOf}
+use Rattle.commands.specs.declared.CommandEnd.{CommandEnd}
 use Rattle.commands.specs.declared.Totals.{Totals}
 
 exact-fits : {c : ℕ} {t : List Node} {store log : List ℕ} {o : Out} {s : State} → Exact c t (memory store log o) s → length (bytes (s .log)) ≤ c
@@ -43,7 +43,7 @@ module _ {h : Head} {c : ℕ} {ns store log : List ℕ} {z : Totals} {s : State}
   reported = kept log (z .out .at) stays
 
   -- One of questions 6 to 12 is answered no, and nothing is changed.
-  pub refused-early : (k : Command) (n : ℕ) → 0 < n → firstNo (questions h (s .nodes) k) ≡ n → (e : Ended) → e .number ≡ n → e .totals ≡ z
+  pub refused-early : (k : Command) (n : ℕ) → 0 < n → firstNo (questions h (s .nodes) k) ≡ n → (e : CommandEnd) → e .number ≡ n → e .totals ≡ z
       → Played h c k s ns store log e
   refused-early k n p q e a b = stopped n (play-stops h c k s n p q) a (subst (λ (y : Totals). Reported c log y s) (sym b) reported)
 
@@ -51,9 +51,9 @@ module _ {h : Head} {c : ℕ} {ns store log : List ℕ} {z : Totals} {s : State}
   module _ (k : Command) (asked : firstNo (questions h (s .nodes) k) ≡ 0) (same-nodes : act k s .nodes ≡ s .nodes)
       (same-variable : act k s .next-variable ≡ s .next-variable) (store′ log′ : List ℕ) (o : Out)
       (r : Represents c (s .nodes) (memory store′ log′ o) (act k s)) (on : Onward (buffer log (z .out .at)) (buffer log′ (o .at)))
-      (e : Ended) (is : e ≡ endedAs (length log′) z o) where
+      (e : CommandEnd) (is : e ≡ endOf (length log′) z o) where
     pub ends : Played h c k s ns store′ log′ e
-    unfolding endedAs
+    unfolding endOf
     ends = by r
       where
         by : Represents c (s .nodes) (memory store′ log′ o) (act k s) → Played h c k s ns store′ log′ e
