@@ -1,9 +1,9 @@
 -- What calls of the library leave meets the demands, since the bytes tell the outcome of the script.
-use mathlib.Core.Path.{_≡_, refl, sym, _∙_, ap}
+use mathlib.Core.Path.{_≡_, sym, _∙_, ap}
 use mathlib.Core.List.{List}
 use Prim.Native.Nat.{ℕ}
 use native.Mathlib.Omega.{arith}
-use lib.ListN.{length, replicate, length-replicate}
+use lib.ListN.{replicate, length-replicate}
 use Rattle.number.specs.Number.{Bytes}
 use Rattle.player.specs.Player.{played}
 use Rattle.answer.specs.Coded.{bytesOf, padded}

@@ -8,13 +8,13 @@ use rows::Shown;
 ghost use mathlib.Core.Path.{_≡_};
 ghost use mathlib.Core.Bool.{Bool};
 ghost use mathlib.Core.List.{List};
-ghost use Prim.Native.Nat.{ℕ, _≤_, _<_, _+_, _-_, _*_, _^_, min};
+ghost use Prim.Native.Nat.{ℕ, _≤_, _<_, _+_, _-_, _*_, _^_};
 ghost use lib.ListN.{length, getD};
 ghost use Rattle.sizes.specs.Sizes.{mostNodes, width, storeRow, storeAt};
 ghost use Rattle.memo.specs.Visit.{each};
 ghost use Rattle.totdb.specs.Nodes.{Node, at, output};
 ghost use Rattle.cert.specs.Definitions.{sideDef, Key, oneDef, real};
-ghost use Rattle.cert.specs.Requests.{request, clausesOf, looksOf};
+ghost use Rattle.cert.specs.Requests.{looksOf};
 ghost use Rattle.cert.specs.State.{lookUp, writeClause, Stored, stepIn, write};
 ghost use Rattle.derivation.specs.Operands.{operand};
 ghost use Rattle.derivation.specs.declared.SemDefinition.the-variants.{Step};
@@ -23,7 +23,7 @@ ghost use Rattle.define.specs.Store.{direction};
 ghost use Rattle.define.specs.Represents.{memory, Represented, Simulates};
 ghost use Rattle.define.specs.Lookups.{SideIn, RealOf};
 ghost use Rattle.clauses.specs.Firsts.{realStep, windowStep, SideRead, hasFirst, sideStored, sidesStored};
-ghost use Rattle.clauses.specs.Joins.{JoinIn, ClauseIn, SideReach, SideRoom, ClauseReach, ClauseValue, clauseOf, clausePart, lastLiteral};
+ghost use Rattle.clauses.specs.Joins.{JoinIn, ClauseIn, SideReach, SideRoom, ClauseValue, clauseOf, clausePart, lastLiteral};
 
 // A leaf, or a window of length 1: its one literal, at 0, at its own value and above.
 fn one_definition(literal: u32, value: usize) -> SemDefinition
@@ -189,7 +189,7 @@ fn is_side_stored(store: &[u32], s: Shown, a: usize) -> bool
     has_first(store, s.window + 1)
 }
 
-// Whether what both sides of a clause look up is stored, as it is of most clauses.
+// Whether what both sides of a clause look up is stored.
 fn are_sides_stored(store: &[u32], x: Join, i: usize, j: usize) -> bool
     requires { ⌜ SideRoom (now store) (x .left) i × SideRoom (now store) (x .right) j ⌝ }
     ensures { λ r. ⌜ r ≡ sidesStored (now (store .entry)) x i j ⌝ }

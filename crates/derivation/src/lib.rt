@@ -4,7 +4,7 @@ ghost use mathlib.Core.Bool.{true};
 ghost use mathlib.Core.List.{[], _∷_, _++_};
 ghost use Prim.Native.Nat.{ℕ, _+_, _≤_};
 ghost use lib.ListN.{length};
-ghost use Rattle.sizes.specs.Sizes.{mostBytes};
+ghost use Rattle.sizes.specs.Sizes.{mostBytes, width};
 ghost use Rattle.pb.specs.Rules.{step, add, divide, saturate};
 ghost use Rattle.record.specs.Record.{derivation, numbers, tokenNumbers};
 ghost use Rattle.record.specs.Writing.{buffer, Puts};
@@ -321,7 +321,7 @@ fn are_twos(w: Whole) -> bool
     is_two(w.output)
 }
 
-// Both records. Where all numbers have two groups their places are known, and no more is tested.
+// Both records. Where all numbers have two groups the places of their bytes are known.
 pub fn push_whole(log: &mut [u8], at: usize, w: Whole) -> usize
     requires { ⌜ at + clauseRoom ≤ length (now log) ⌝ }
     ensures { λ r. ⌜ Puts (buffer (now (log .entry)) at) (wholeNumbers w) (buffer (now (log .exit)) r) ⌝ }
@@ -359,7 +359,7 @@ pub fn push_if_part(
     that: u32,
     literal: u32,
 ) -> usize
-    requires { ⌜ (s ≤ 64) × (at + 40 ≤ length (now log)) ⌝ }
+    requires { ⌜ (s ≤ width) × (at + 40 ≤ length (now log)) ⌝ }
     ensures { λ r. ⌜ ((at-step : Key → ℕ → ℕ) (n : ℕ) (x : Node)
         → at-step (real n v) 0 ≡ this → at-step (real n s) 1 ≡ that → output x s ≡ literal
         → Puts (buffer (now (log .entry)) at) (tokenNumbers (ifPart at-step n x v s)) (buffer (now (log .exit)) r)) ⌝ }
@@ -384,7 +384,7 @@ pub fn push_only_if_part(
     that: u32,
     literal: u32,
 ) -> usize
-    requires { ⌜ (v ≤ 64) × (at + 40 ≤ length (now log)) ⌝ }
+    requires { ⌜ (v ≤ width) × (at + 40 ≤ length (now log)) ⌝ }
     ensures { λ r. ⌜ ((at-step : Key → ℕ → ℕ) (n : ℕ) (x : Node)
         → at-step (real n v) 1 ≡ this → at-step (real n s) 0 ≡ that → output x s ≡ literal
         → Puts (buffer (now (log .entry)) at) (tokenNumbers (onlyIfPart at-step n x v s)) (buffer (now (log .exit)) r)) ⌝ }

@@ -1,5 +1,5 @@
 -- Every play ends in a number, a place and a state: the one before any command, or one that passed commands led to.
-use mathlib.Core.Path.{_≡_, refl, sym, _∙_, ap}
+use mathlib.Core.Path.{_≡_, refl, _∙_}
 use mathlib.Core.Bool.{Bool, true, false}
 use mathlib.Core.List.{List, [], _∷_, flatMap}
 use mathlib.Core.Option.{some}

@@ -5,6 +5,7 @@ use mathlib.Core.List.{List, [], _∷_, _++_}
 use Prim.Native.Nat.{ℕ, zero, suc, _+_, _*_, _≤_}
 use native.Mathlib.Omega.{arith}
 use lib.ListN.{length}
+use Rattle.sizes.specs.Sizes.{leafBytes, joinBytes}
 use Rattle.number.specs.Number.{groups, Front, number, bad, read}
 use Rattle.number.proofs.Laws.{readIn-rest}
 use Rattle.totdb.specs.Nodes.{Node, leaf, joined, known, leafCount, sideLeaves}
@@ -64,7 +65,7 @@ command-takes closed (b ∷ bs) c rest e = takes-code closed (b ∷ bs) c rest e
 pub record Took (n : ℕ) (t : List Node) : Type 0 where
   pub joins : ℕ
   pub counted : length t ≡ leafCount t + joins
-  pub within : 2 * leafCount t + 7 * joins ≤ n
+  pub within : leafBytes * leafCount t + joinBytes * joins ≤ n
 
 pub took-start : (h : Head) (n : ℕ) → Took n (start h .nodes)
 unfolding start leafCount

@@ -5,8 +5,7 @@ use mathlib.Core.List.{List, [], _∷_, _++_}
 use Prim.Native.Nat.{ℕ, zero, suc, _+_, _-_, _≤_}
 use lib.Dec.{leb, ltb, eqb}
 use lib.ListN.{length, drop, replicate}
-use Rattle.sizes.specs.Sizes.{mostHead, mostLeaves}
-pub use Rattle.sizes.specs.Sizes.{mostBytes}
+use Rattle.sizes.specs.Sizes.{mostBytes, mostHead, mostLeaves}
 use Rattle.number.specs.Number.{readRefusal}
 use Rattle.number.specs.declared.Reading.the-variants.{Bad}
 use Rattle.pb.specs.Sum.{variable, neg}

@@ -94,17 +94,17 @@ fn has_both(x: Join, i: usize, j: usize, only_if: bool) -> bool
     0 < j
 }
 
-// The first step of a plain side's definition, 0 where it is missing.
+// The first step of a plain side's definition, 0 where it is missing. The key of a value is the value itself.
 fn first_of(store: &[u32], s: Shown, a: usize) -> u32
-    requires { ⌜ SideRoom (now store) s a ⌝ }
+    requires { ⌜ SideRoom (now store) s a × (isLong s ≡ true) ⌝ }
     ensures { λ r. ⌜ r ≡ getD (now (store .entry)) (storeAt (s .side .node) + a) 0 ⌝ }
 {
     let side = s.side;
-    store[define::store_at(side.node) + a]
+    store[define::store_at(side.node) + side.key(a)]
 }
 
 fn has_first_of(store: &[u32], s: Shown, a: usize) -> bool
-    requires { ⌜ SideRoom (now store) s a ⌝ }
+    requires { ⌜ SideRoom (now store) s a × (isLong s ≡ true) ⌝ }
     ensures { λ r. ⌜ r ≡ hasFirst (now (store .entry)) (storeAt (s .side .node) + a) ⌝ }
 {
     first_of(store, s, a) != 0
@@ -122,7 +122,7 @@ fn is_ready(
     only_if: bool,
     long: bool,
 ) -> bool
-    requires { ⌜ ClauseReach (now store) x value i j «only_if» ⌝ }
+    requires { ⌜ ClauseReach (now store) x value i j «only_if» × (long ≡ areLong x) ⌝ }
     ensures { λ r. ⌜ r ≡ isReady (now (store .entry)) length at x value i j «only_if» long ⌝ }
 {
     if !long {

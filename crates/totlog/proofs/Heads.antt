@@ -6,7 +6,7 @@ use Prim.Native.Nat.{ℕ, _≤_, _<_}
 use native.Mathlib.Omega.{arith}
 use borrow.Author.Tests.{le-leb, lt-leb}
 use lib.ListN.{length}
-use Rattle.sizes.specs.Sizes.{mostHead}
+use Rattle.sizes.specs.Sizes.{mostBytes, mostHead}
 use Rattle.number.specs.Number.{groups, readAt}
 use Rattle.number.specs.declared.Reading.{Reading}
 use Rattle.number.specs.declared.Reading.the-variants.{Number, Bad}
@@ -14,7 +14,7 @@ use Rattle.number.proofs.Places.{readFrom-number}
 use Rattle.record.specs.Record.{bytes, steps, clauses}
 use Rattle.cert.specs.State.{Head, start}
 use Rattle.player.specs.Places.{headAt, withNumber}
-use Rattle.player.specs.Player.{Outcome, outcome, headFits, mostBytes, played, playScript, refusedAtHead}
+use Rattle.player.specs.Player.{Outcome, outcome, headFits, played, playScript, refusedAtHead}
 use Rattle.player.specs.declared.HeadReading.{HeadReading}
 use Rattle.player.proofs.Places.{headed, script-head}
 use Rattle.player.proofs.Refusal.{played-true, played-false, script-true, script-false, script-headless}

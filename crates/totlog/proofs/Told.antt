@@ -1,5 +1,5 @@
 -- Log and answer at the exit of a call tell the outcome of the script.
-use mathlib.Core.Path.{_≡_, refl, ap, _∙_}
+use mathlib.Core.Path.{_≡_, ap, _∙_}
 use mathlib.Core.List.{List, _++_}
 use Prim.Native.Nat.{ℕ, _+_, _-_, _*_, _≤_, _/_, _%_}
 use native.Mathlib.Omega.{arith}

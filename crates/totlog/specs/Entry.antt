@@ -70,10 +70,10 @@ commandsFrom bs from = readCommands (length bs - from) false (drop from bs)
 abbrev pub playedFrom : List ℕ → ℕ → Head → ℕ → Outcome
 playedFrom bs from h c = plays h c (commandsFrom bs from .ending) (commandsFrom bs from .list) 0 (start h)
 
--- What may be made before a command of a script of n bytes: nodes take the bytes of their commands, and are 128 at most.
+-- What may be made before a command of a script of n bytes: nodes take the bytes of their commands, and there are two for each leaf at most.
 pub record Made (n leaves joins : ℕ) : Type 0 where
   pub few-leaves : leaves ≤ mostLeaves
-  pub few : leaves + joins ≤ 128
+  pub few : leaves + joins ≤ 2 * mostLeaves
   pub took : leafBytes * leaves + joinBytes * joins < n
 
 -- The tables have room for a node before every command of a script of n bytes.
@@ -93,7 +93,7 @@ pub record Finished (h : Head) (c : ℕ) (cs : Commands) (log : List ℕ) (r : P
   pub reported : Reported c log (r .totals) state
   pub fits : length (bytes (state .log)) ≤ c
   pub counted : state .next-step ≡ h .step + Rattle.record.specs.Record.steps (state .log)
-  pub few : length (state .nodes) ≤ 128
+  pub few : length (state .nodes) ≤ 2 * mostLeaves
 
 -- What the entry's parts are lent: a script with a head, and a log, that are not too long.
 pub record Lent (script : List ℕ) (from : ℕ) (log : List ℕ) (h : Head) : Type 0 where

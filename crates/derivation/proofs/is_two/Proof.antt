@@ -2,7 +2,6 @@
 use borrow.Author.Tests.{le-leb, lt-leb}
 use native.Mathlib.Omega.{arith}
 use Rattle.derivation.specs.Operands.{isTwo}
-use borrow.Author.Needs.{needs}
 use Rattle.derivation.proofs.is_two.Statement.{statement}
 use Rattle.derivation.proofs.is_two.Tie as tie
 

@@ -2,7 +2,6 @@
 use borrow.Author.Tests.{lt-leb, le-leb, lt-ltb, le-ltb}
 use native.Mathlib.Omega.{arith}
 use Rattle.splits.specs.Ready.{hasBoth}
-use borrow.Author.Needs.{needs}
 use Rattle.splits.proofs.has_both.Statement.{statement}
 use Rattle.splits.proofs.has_both.Tie as tie
 

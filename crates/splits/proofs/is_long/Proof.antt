@@ -1,5 +1,4 @@
 -- `splits::is_long` meets its contract.
-use mathlib.Core.Path.{_∙_}
 use borrow.Author.Tests.{lt-ltb, le-ltb}
 use Rattle.splits.specs.Ready.{isLong}
 use borrow.Author.Needs.{needs}

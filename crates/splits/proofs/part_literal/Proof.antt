@@ -1,5 +1,4 @@
 -- `splits::part_literal` meets its contract.
-use mathlib.Core.Path.{_∙_}
 use Rattle.clauses.proofs.Joins.{only-literal, if-literal}
 use borrow.Author.Needs.{needs}
 use Rattle.splits.proofs.part_literal.Statement.{statement}

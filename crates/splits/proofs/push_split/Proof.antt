@@ -44,14 +44,14 @@ first-of-requires c κs =
     let start = c .before .before .before .before in
     let p = start .pre .1 .1 in
     let r = clause-reach (p .holds) (p .table .bounded) (start .args .store .now) (store-room (p .represents)) in
-    r .left
+    (r .left, long-sides (start .args .x) (start .pre .0 .0 .long) .0)
 
 first-of-requires-2 : tie.Need-first-of-requires-2
 first-of-requires-2 c κs =
     let start = c .before .before .before .before .before in
     let p = start .pre .1 .1 in
     let r = clause-reach (p .holds) (p .table .bounded) (start .args .store .now) (store-room (p .represents)) in
-    r .right
+    (r .right, long-sides (start .args .x) (start .pre .0 .0 .long) .1)
 
 later-step-requires : tie.Need-later-step-requires
 later-step-requires c κs = search needs

@@ -11,8 +11,9 @@ use Rattle.splits.proofs.write_split.Tie as tie
 
 is-ready-requires : tie.Need-is-ready-requires
 is-ready-requires c κs =
-    let p = c .before .before .before .before .pre .1 in
-    clause-reach (p .holds) (p .table .bounded) _ (store-room (p .represents))
+    let q = c .before .before .before .before .pre in
+    let p = q .1 in
+    (clause-reach (p .holds) (p .table .bounded) _ (store-room (p .represents)), q .0)
 
 push-split-requires : tie.Need-push-split-requires
 push-split-requires c κs =
