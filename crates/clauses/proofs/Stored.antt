@@ -13,7 +13,7 @@ use Rattle.totdb.specs.Nodes.{Node, plainOr, keyed}
 use Rattle.cert.specs.Definitions.{Direction, Key, real, window, sideDef}
 use Rattle.cert.specs.Requests.{keyOf, looksOf}
 use Rattle.cert.specs.State.{State, lookUp}
-use Rattle.derivation.proofs.Twos.{both-true}
+use Rattle.memo.proofs.Booleans.{and-true}
 use Rattle.rows.specs.Rows.{Table}
 use Rattle.rows.specs.declared.Join.{Join}
 use Rattle.rows.specs.declared.Shown.{Shown}
@@ -106,7 +106,7 @@ pub sims-this : {ns : List ℕ} {x : Join} {v i j : ℕ} {b : Bool} {m n : Memor
     → Simulates ns (λ t u. ClauseIn t x v i j b) (λ t u. each (lookUp t) (looksOf t (clauseOf t x v i j b)) u) m n
 unfolding sidesStored
 sims-this {x = x} {v} {i} {j} {b} {m} h d =
-    let both = both-true (sideStored (m .store) (x .left) i) _ h in
+    let both = and-true (sideStored (m .store) (x .left) i) _ h in
     sims-looks (sims-stored-side (x .left) i (direction (not b)) m (both .0)) (sims-stored-side (x .right) j (direction (not b)) m (both .1)) d
 
 pub sims-stored-real : {ns : List ℕ} {n v : ℕ} {m : Memory} → hasFirst (m .store) (storeAt n + v) ≡ true

@@ -1,30 +1,26 @@
 -- The tests of numbers of two groups.
-use mathlib.Core.Path.{_≡_, refl, sym}
-use mathlib.Core.Bool.{Bool, true, false, _&&_}
+use mathlib.Core.Path.{_≡_}
+use mathlib.Core.Bool.{true}
 use Prim.Native.Nat.{ℕ}
 use borrow.Author.Tests.{leb-true, ltb-true}
 use lib.Dec.{leb, ltb}
-use Rattle.cert.proofs.Distinct.{true≢false}
+use Rattle.memo.proofs.Booleans.{and-true}
 use Rattle.derivation.specs.Operands.{Two, isTwo, Twos, areTwos}
 use Rattle.derivation.specs.declared.Whole.{Whole}
 
-pub both-true : (a b : Bool) → (a && b) ≡ true → (a ≡ true) × (b ≡ true)
-both-true true b h = (refl, h)
-both-true false b h = absurd (true≢false (sym h))
-
 pub two : (x : ℕ) → isTwo x ≡ true → Two x
 unfolding isTwo
-two x h = let p = both-true (leb 128 x) _ h in record { low = leb-true 128 x (p .0); high = ltb-true x 16384 (p .1) }
+two x h = let p = and-true (leb 128 x) _ h in record { low = leb-true 128 x (p .0); high = ltb-true x 16384 (p .1) }
 
 pub twos : (w : Whole) → areTwos w ≡ true → Twos w
 unfolding areTwos
 twos w h =
-    let a = both-true (isTwo (w .this)) _ h in
-    let b = both-true (isTwo (w .left)) _ (a .1) in
-    let c = both-true (isTwo (w .right)) _ (b .1) in
-    let d = both-true (isTwo (w .step)) _ (c .1) in
-    let e = both-true (isTwo (w .«left_part»)) _ (d .1) in
-    let f = both-true (isTwo (w .«right_part»)) _ (e .1) in
+    let a = and-true (isTwo (w .this)) _ h in
+    let b = and-true (isTwo (w .left)) _ (a .1) in
+    let c = and-true (isTwo (w .right)) _ (b .1) in
+    let d = and-true (isTwo (w .step)) _ (c .1) in
+    let e = and-true (isTwo (w .«left_part»)) _ (d .1) in
+    let f = and-true (isTwo (w .«right_part»)) _ (e .1) in
     record {
       this = two (w .this) (a .0);
       left = two (w .left) (b .0);

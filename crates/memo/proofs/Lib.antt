@@ -1,5 +1,6 @@
 -- The theory of memoised service.
 pub mod Answers
+pub mod Booleans
 pub mod Lists
 pub mod Serve
 pub mod Machine

@@ -8,6 +8,7 @@ use native.Mathlib.Omega.{arith}
 use borrow.Author.Tests.{leb-true}
 use lib.Dec.{leb}
 use lib.ListN.{length}
+use Rattle.memo.proofs.Booleans.{and-true}
 use Rattle.number.specs.Number.{Bytes, encode, number, bad, readIn}
 use Rattle.memo.proofs.Lists.{flatMap-append}
 use Rattle.totdb.specs.declared.Side.{Side}
@@ -18,7 +19,6 @@ use Rattle.player.specs.Verdict.{Reads, IsScript, Reached, at-head, one-
 use Rattle.player.specs.declared.Command.{Command}
 use Rattle.player.specs.declared.Command.the-variants.{Leaf, Join, Request, Close}
 use Rattle.player.proofs.Fronts.{reads-cons, reads-nil}
-use Rattle.player.proofs.Refusal.{and-true}
 use Rattle.player.proofs.Judged.{accepted-whole, verdict-of}
 
 -- ---- numbers

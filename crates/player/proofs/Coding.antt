@@ -8,6 +8,7 @@ use borrow.Author.Tests.{ltb-true}
 use lib.Dec.{ltb}
 use lib.ListN.{length, getD, length-append}
 use lib.Seq.{getD-append-add}
+use Rattle.memo.proofs.Booleans.{and-true}
 use Rattle.number.specs.Number.{groups, Bytes, encode, Front, number, bad, read}
 use Rattle.number.proofs.Laws.{encode-some, read-encode, read-number}
 use Rattle.memo.proofs.Lists.{flatMap-append}
@@ -16,7 +17,7 @@ use Rattle.cert.specs.State.{Head}
 use Rattle.player.specs.Script.{Next, command, refuse, end, get, arguments, readCommand, closes, Commands, stop, before, readCommands, script, readScript, commandNumbers, scriptBytes}
 use Rattle.player.specs.declared.Command.{Command}
 use Rattle.player.specs.declared.Command.the-variants.{Leaf, Join, Request, Close}
-use Rattle.player.proofs.Refusal.{and-true, head-read}
+use Rattle.player.proofs.Refusal.{head-read}
 
 -- ---- what is written reads
 

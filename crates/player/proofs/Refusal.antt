@@ -184,11 +184,6 @@ module _ (capacity : ℕ) where
 
 -- ---- reading
 
-pub and-true : (a b : Bool) → (a && b) ≡ true → (a ≡ true) × (b ≡ true)
-and-true true true e = (refl, refl)
-and-true true false e = absurd (let z : _≡_ {A = ℕ} 0 1 = cc in omega arith)
-and-true false b e = absurd (let z : _≡_ {A = ℕ} 0 1 = cc in omega arith)
-
 pub script-is : (bs : List ℕ) (v : ℕ) (r : List ℕ) (s : ℕ) (t : List ℕ) → read bs ≡ number v r → read r ≡ number s t
     → readScript bs ≡ script (record { variable = v; step = s }) (readCommands (length t) false t)
 unfolding readScript

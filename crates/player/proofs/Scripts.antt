@@ -8,11 +8,12 @@ use borrow.Author.Tests.{leb-true, le-leb}
 use lib.Dec.{leb}
 use lib.ListN.{length}
 use Rattle.sizes.specs.Sizes.{mostBytes}
+use Rattle.memo.proofs.Booleans.{and-true}
 use Rattle.cert.specs.State.{start, Head}
 use Rattle.player.specs.Passes.{Passes}
 use Rattle.player.specs.Player.{outcome, plays, refusedAtHead, headFits, playScript, played}
 use Rattle.player.specs.Script.{Commands, Script, script, headless, readScript}
-use Rattle.player.proofs.Refusal.{and-true, script-true, script-false, script-headless, played-true, played-false}
+use Rattle.player.proofs.Refusal.{script-true, script-false, script-headless, played-true, played-false}
 use Rattle.player.proofs.Runs.{plays-finished, plays-passed}
 
 pub head-number : (capacity n : ℕ) → refusedAtHead capacity n .number ≡ n

@@ -5,6 +5,7 @@ use mathlib.Core.List.{List, [], _∷_, _++_, flatMap}
 use Prim.Native.Nat.{ℕ, _*_}
 use borrow.Author.Tests.{eqb-true}
 use lib.Dec.{eqb}
+use Rattle.memo.proofs.Booleans.{and-true}
 use Rattle.number.specs.Number.{Bytes}
 use Rattle.totdb.specs.Nodes.{range}
 use Rattle.cert.specs.State.{State, Head}
@@ -13,7 +14,6 @@ use Rattle.player.specs.Verdict.{Reached, Verdict}
 use Rattle.player.specs.declared.Command.{Command}
 use Rattle.player.proofs.Coding.{areBytes, bytes-tested}
 use Rattle.player.proofs.Judged.{accepted-whole, verdict-of}
-use Rattle.player.proofs.Refusal.{and-true}
 
 -- A script and a log's length, with the number and the place that they come to.
 pub record Case : Type 0 where

@@ -7,6 +7,7 @@ use native.Mathlib.Omega.{arith}
 use borrow.Author.Tests.{eqb-true, eq-eqb}
 use lib.Dec.{eqb}
 use lib.ListN.{length}
+use Rattle.memo.proofs.Booleans.{and-true}
 use Rattle.totdb.specs.Nodes.{Node, leaf, join, at, len, sideLen}
 use Rattle.totdb.specs.declared.Side.{Side}
 use Rattle.cert.specs.Sized.{Sized, Fit}
@@ -30,14 +31,10 @@ shows-self : (t : List Node) (s : Side) → shows t (s .node) (s .offset) (sideL
 unfolding shows
 shows-self t s = rw (eq-eqb (s .node) (s .node) refl, eq-eqb (s .offset) (s .offset) refl, eq-eqb (sideLen t s) (sideLen t s) refl)
 
-and-left : (a b : Bool) → (a && b) ≡ true → a ≡ true
-and-left true b e = refl
-and-left false b e = e
-
 shows-node : (t : List Node) (n f m : ℕ) (s : Side) → shows t n f m s ≡ true → s .node ≡ n
 unfolding shows
 shows-node t n f m s e =
-    eqb-true (s .node) n (and-left (eqb (s .node) n) (eqb (s .offset) f) (and-left (eqb (s .node) n && eqb (s .offset) f) (eqb (sideLen t s) m) e))
+    eqb-true (s .node) n (and-true (eqb (s .node) n) (eqb (s .offset) f) (and-true (eqb (s .node) n && eqb (s .offset) f) (eqb (sideLen t s) m) e .0) .0)
 
 false-true : {A : Type 0} {b : Bool} → b ≡ false → b ≡ true → A
 false-true p q = absurd (let z : _≡_ {A = ℕ} 0 1 = cc in omega arith)

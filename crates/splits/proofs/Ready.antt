@@ -18,7 +18,7 @@ use Rattle.derivation.specs.Operands.{operand, part, clauseRoom, wholeNumbers}
 use Rattle.derivation.specs.declared.Part.the-variants.{Literal}
 use Rattle.derivation.specs.declared.Whole.{Whole}
 use Rattle.derivation.specs.declared.SemDefinition.the-variants.{Step}
-use Rattle.derivation.proofs.Twos.{both-true}
+use Rattle.memo.proofs.Booleans.{and-true}
 use Rattle.rows.specs.Rows.{Bounded}
 use Rattle.rows.specs.declared.Join.{Join}
 use Rattle.rows.specs.declared.Shown.{Shown}
@@ -35,17 +35,17 @@ use Rattle.splits.specs.Ready.{isLong, areLong, hasBoth, isReady, BothPa
 
 pub long-side : (s : Shown) → isLong s ≡ true → (1 < s .len) × (plainOr (s .side .offset) (s .side .limit) true false ≡ true)
 unfolding isLong
-long-side s h = let p = both-true (ltb 1 (s .len)) _ h in (ltb-true 1 (s .len) (p .0), p .1)
+long-side s h = let p = and-true (ltb 1 (s .len)) _ h in (ltb-true 1 (s .len) (p .0), p .1)
 
 pub long-sides : (x : Join) → areLong x ≡ true → (isLong (x .left) ≡ true) × (isLong (x .right) ≡ true)
 unfolding areLong
-long-sides x h = both-true (isLong (x .left)) _ h
+long-sides x h = and-true (isLong (x .left)) _ h
 
 pub both-parts : {x : Join} {i j : ℕ} (b : Bool) → areLong x ≡ true → hasBoth x i j b ≡ true → ClauseValue b (x .left .len) i → ClauseValue b (x .right .len) j
     → BothParts x i j
 unfolding hasBoth
 both-parts {x} {i} {j} true l h p q =
-    let k = both-true (leb i (x .left .len)) _ h in
+    let k = and-true (leb i (x .left .len)) _ h in
     record {
       long = l;
       left-above = p .above refl;
@@ -54,7 +54,7 @@ both-parts {x} {i} {j} true l h p q =
       right-within = leb-true j (x .right .len) (k .1);
     }
 both-parts {x} {i} {j} false l h p q =
-    let k = both-true (ltb 0 i) _ h in
+    let k = and-true (ltb 0 i) _ h in
     record {
       long = l;
       left-above = ltb-true 0 i (k .0);
@@ -75,11 +75,11 @@ pub readied : {store : List ℕ} {n at : ℕ} {x : Join} {v i j : ℕ} {b long :
     → Readied store n at x v i j b long
 unfolding isReady
 readied {store} {n} {at} {x} {v} {i} {j} {b} {long} h =
-    let p = both-true long _ h in
-    let q = both-true (hasBoth x i j b) _ (p .1) in
-    let r = both-true (leb (at + clauseRoom) n) _ (q .1) in
-    let f = both-true (hasFirst store (storeAt (x .node) + v)) _ (r .1) in
-    let g = both-true (hasFirst store (storeAt (x .left .side .node) + i)) _ (f .1) in
+    let p = and-true long _ h in
+    let q = and-true (hasBoth x i j b) _ (p .1) in
+    let r = and-true (leb (at + clauseRoom) n) _ (q .1) in
+    let f = and-true (hasFirst store (storeAt (x .node) + v)) _ (r .1) in
+    let g = and-true (hasFirst store (storeAt (x .left .side .node) + i)) _ (f .1) in
     record { long-is = p .0; both = q .0; room = leb-true (at + clauseRoom) n (r .0); this = f .0; left = g .0; right = g .1 }
 
 -- ---- what the sides look up is stored
