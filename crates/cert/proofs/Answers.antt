@@ -7,7 +7,7 @@ use native.Mathlib.Decide.{decLe}
 use Rattle.pb.specs.Sum.{_·_, _≥_}
 use Rattle.record.specs.Record.{numbers}
 use Rattle.record.specs.Steps.{written, derived}
-use Rattle.totdb.specs.Nodes.{Node, leaf, join, at, leaves, len, limited, range, sideLen, plainOr, keyed}
+use Rattle.totdb.specs.Nodes.{Node, leaf, join, nodeAt, leaves, len, limited, range, sideLen, plainOr, keyed}
 use Rattle.cert.specs.Definitions.{if, only-if, real, window, realDef, longDef, sideDef, definedBy}
 use Rattle.cert.specs.Lookups.{usedAt, usedBy}
 use Rattle.cert.specs.Requests.{request, splits, positive, named, below, needsAt, needs, Lookup, of-side, of-node, ifClause, onlyIfClause, clausesAt, clausesOf, definition, keyOf, lookedUp, looksOf, lookups}
@@ -82,11 +82,11 @@ value-three =
     ∷ []
 
 pub wanted : (map lookedUp (clausesOf table (request 6 1 if)) ≡ value-one) × (map lookedUp (clausesOf table (request 6 3 only-if)) ≡ value-three)
-unfolding table value-one value-three at leaves len limited range sideLen splits clausesOf clausesAt ifClause onlyIfClause
+unfolding table value-one value-three nodeAt leaves len limited range sideLen splits clausesOf clausesAt ifClause onlyIfClause
 wanted = (refl, refl)
 
 pub listed : (usedBy table (request 6 1 if) ≡ value-one) × (usedBy table (request 6 3 only-if) ≡ value-three)
-unfolding table value-one value-three at leaves len limited range sideLen usedBy usedAt pairs flatMap
+unfolding table value-one value-three nodeAt leaves len limited range sideLen usedBy usedAt pairs flatMap
 listed = (refl, refl)
 
 -- Two nodes of length 2 under a third: what a value needs below, and the keys that its clauses look up, in order.
@@ -99,9 +99,9 @@ four =
     ∷ []
 
 pub below-both : needs four (request 6 1 if) ≡ request 4 1 if ∷ request 5 1 if ∷ []
-unfolding four at leaves len limited range sideLen splits positive named below needsAt needs
+unfolding four nodeAt leaves len limited range sideLen splits positive named below needsAt needs
 below-both = refl
 
 pub in-order : lookups four (request 6 1 if) ≡ real 4 0 ∷ real 5 1 ∷ real 6 1 ∷ real 4 1 ∷ real 5 0 ∷ real 6 1 ∷ []
-unfolding four at leaves len limited range sideLen splits flatMap lookups clausesOf clausesAt ifClause looksOf definition sideDef longDef plainOr realDef keyOf keyed decLe
+unfolding four nodeAt leaves len limited range sideLen splits flatMap lookups clausesOf clausesAt ifClause looksOf definition sideDef longDef plainOr realDef keyOf keyed decLe
 in-order = refl

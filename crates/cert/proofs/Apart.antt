@@ -8,7 +8,7 @@ use native.Mathlib.Omega.{arith}
 use lib.ListN.{length}
 use Rattle.pb.specs.Sum.{neg}
 use Rattle.memo.proofs.Lists.{not-mem, map-twice, nodup-map}
-use Rattle.totdb.specs.Nodes.{range, Node, len, at, leaf, join, sideLen, output, sideLit}
+use Rattle.totdb.specs.Nodes.{range, Node, len, nodeAt, leaf, join, sideLen, output, sideLit}
 use Rattle.totdb.specs.declared.Side.{Side}
 use Rattle.cert.specs.Definitions.{Direction, if, only-if}
 use Rattle.cert.specs.Requests.{splits, positive, within, named, Request, request, needs, needsAt, below, negPart, posPart, clausesOf, clausesAt, ifClause, onlyIfClause, Clause, literalsOf, Right}
@@ -101,14 +101,14 @@ named-has only-if v p q (suc a) h k i j =
 
 -- No two outputs have one literal.
 unfoldable pub Apart : List Node → Type 0
-Apart t = (n m i j : ℕ) → n < length t → m < length t → 1 ≤ i → i ≤ len (at t n) → 1 ≤ j → j ≤ len (at t m) → output (at t n) i ≡ output (at t m) j
+Apart t = (n m i j : ℕ) → n < length t → m < length t → 1 ≤ i → i ≤ len (nodeAt t n) → 1 ≤ j → j ≤ len (nodeAt t m) → output (nodeAt t n) i ≡ output (nodeAt t m) j
     → (n ≡ m) × (i ≡ j)
 
 pub right-needs : (t : List Node) → Sized t → (x y : Request) → Right t x → List·Memᴰ y (needs t x) → Right t y
 unfolding needs Right Sized needsAt Fit below
-right-needs t sz (request n v d) y x m = go (at t n) (sz n (x .0)) m
+right-needs t sz (request n v d) y x m = go (nodeAt t n) (sz n (x .0)) m
   where
-    side : (s : Side) (q : ℕ) → s .node < length t → s .offset + sideLen t s ≤ len (at t (s .node))
+    side : (s : Side) (q : ℕ) → s .node < length t → s .offset + sideLen t s ≤ len (nodeAt t (s .node))
         → List·Memᴰ y (below d s (named d v (sideLen t s) q)) → Right t y
     side s q h k g =
         let i = Memᴰ·of-map (λ (i : ℕ). request (s .node) (s .offset + i) d) (named d v (sideLen t s) q) g in
@@ -129,9 +129,9 @@ groupAt t (join m o l r) v only-if =
     map {B = List ℕ} (λ (a : ℕ). posPart t l (suc a) ++ posPart t r (suc (v - 1 - a)) ++ (neg (output (join m o l r) v) ∷ []))
     (splits (v - 1) (sideLen t l) (sideLen t r))
 
-group-is : (t : List Node) (n v : ℕ) (d : Direction) → literalsOf t (request n v d) ≡ groupAt t (at t n) v d
+group-is : (t : List Node) (n v : ℕ) (d : Direction) → literalsOf t (request n v d) ≡ groupAt t (nodeAt t n) v d
 unfolding literalsOf clausesOf clausesAt groupAt ifClause onlyIfClause
-group-is t n v d = go (at t n) d
+group-is t n v d = go (nodeAt t n) d
   where
     go : (a : Node) (d : Direction) → map {B = List ℕ} (λ (c : Clause). c .literals) (clausesAt t n a v d) ≡ groupAt t a v d
     go (leaf a) d = refl
@@ -151,12 +151,12 @@ last-snoc d (x ∷ xs) z = last-snoc x xs z
 
 -- The literal that ends each clause of a request.
 ends : List Node → Request → ℕ
-ends t (request n v if) = output (at t n) v
-ends t (request n v only-if) = neg (output (at t n) v)
+ends t (request n v if) = output (nodeAt t n) v
+ends t (request n v only-if) = neg (output (nodeAt t n) v)
 
 group-ends : (t : List Node) (x : Request) (c : List ℕ) → List·Memᴰ c (literalsOf t x) → lastOf 0 c ≡ ends t x
 unfolding groupAt ends
-group-ends t (request n v if) c m = go (at t n) (rw group-is at m)
+group-ends t (request n v if) c m = go (nodeAt t n) (rw group-is at m)
   where
     go : (a : Node) → List·Memᴰ c (groupAt t a v if) → lastOf 0 c ≡ output a v
     go (leaf a) g = absurd (List·Memᴰ·not-nil g)
@@ -164,7 +164,7 @@ group-ends t (request n v if) c m = go (at t n) (rw group-is at m)
         let i = Memᴰ·of-map {B = List ℕ} (λ (a : ℕ). negPart t l a ++ negPart t r (v - a) ++ (output (join p o l r) v ∷ []))
         (splits v (sideLen t l) (sideLen t r)) g in
         ap (lastOf 0) (sym (i .2)) ∙ last-snoc 0 (negPart t l (i .0) ++ negPart t r (v - i .0)) (output (join p o l r) v)
-group-ends t (request n v only-if) c m = go (at t n) (rw group-is at m)
+group-ends t (request n v only-if) c m = go (nodeAt t n) (rw group-is at m)
   where
     go : (a : Node) → List·Memᴰ c (groupAt t a v only-if) → lastOf 0 c ≡ neg (output a v)
     go (leaf a) g = absurd (List·Memᴰ·not-nil g)
@@ -174,9 +174,9 @@ group-ends t (request n v only-if) c m = go (at t n) (rw group-is at m)
         ap (lastOf 0) (sym (i .2)) ∙ last-snoc 0 (posPart t l (suc (i .0)) ++ posPart t r (suc (v - 1 - i .0))) (neg (output (join p o l r) v))
 
 -- A request with a clause is at a join, whose outputs are even.
-group-even : (t : List Node) (n v : ℕ) (d : Direction) (c : List ℕ) → List·Memᴰ c (literalsOf t (request n v d)) → output (at t n) v % 2 ≡ 0
+group-even : (t : List Node) (n v : ℕ) (d : Direction) (c : List ℕ) → List·Memᴰ c (literalsOf t (request n v d)) → output (nodeAt t n) v % 2 ≡ 0
 unfolding groupAt output
-group-even t n v d c m = go (at t n) (rw group-is at m)
+group-even t n v d c m = go (nodeAt t n) (rw group-is at m)
   where
     go : (a : Node) → List·Memᴰ c (groupAt t a v d) → output a v % 2 ≡ 0
     go (leaf a) g = absurd (List·Memᴰ·not-nil g)
@@ -195,7 +195,7 @@ group-apart t ap (request n v if) (request m w if) c x y i j = let k =
     k .0 in let q = k .1 in cc
 group-apart t ap (request n v only-if) (request m w only-if) c x y i j = let k =
     ap n m v w (x .0) (y .0) (x .1) (x .2) (y .1) (y .2)
-    (neg-inj (output (at t n) v) (output (at t m) w) (sym (group-ends t (request n v only-if) c i) ∙ group-ends t (request m w only-if) c j)) in
+    (neg-inj (output (nodeAt t n) v) (output (nodeAt t m) w) (sym (group-ends t (request n v only-if) c i) ∙ group-ends t (request m w only-if) c j)) in
     let p = k .0 in let q = k .1 in cc
 group-apart t ap (request n v if) (request m w only-if) c x y i j =
     absurd (omega (
@@ -305,7 +305,7 @@ module _ (t : List Node) (apart : Apart t) (m : List ℕ) (o : ℕ) (l r : Side)
 -- No request has a clause twice.
 pub group-once : (t : List Node) → Sized t → Apart t → (x : Request) → Right t x → List·Nodup (literalsOf t x)
 unfolding groupAt Right Sized Fit len
-group-once t sz apart (request n v d) x = rw group-is (go (at t n) d (sz n (x .0)) (x .2))
+group-once t sz apart (request n v d) x = rw group-is (go (nodeAt t n) d (sz n (x .0)) (x .2))
   where
     go : (a : Node) (d : Direction) → Fit t n a → v ≤ len a → List·Nodup (groupAt t a v d)
     go (leaf a) d f h = nodup-nil
@@ -322,9 +322,9 @@ group-once t sz apart (request n v d) x = rw group-is (go (at t n) d (sz n (x .0
 
 pub numbered-apart : (start : ℕ) (t : List Node) → Numbered start t → Apart t
 unfolding Apart len output
-numbered-apart start t law n k i j hn hk i₁ i₂ j₁ j₂ e = go (at t n) (at t k) refl refl i₂ j₂ e
+numbered-apart start t law n k i j hn hk i₁ i₂ j₁ j₂ e = go (nodeAt t n) (nodeAt t k) refl refl i₂ j₂ e
   where
-    go : (x y : Node) → at t n ≡ x → at t k ≡ y → i ≤ len x → j ≤ len y → output x i ≡ output y j → (n ≡ k) × (i ≡ j)
+    go : (x y : Node) → nodeAt t n ≡ x → nodeAt t k ≡ y → i ≤ len x → j ≤ len y → output x i ≡ output y j → (n ≡ k) × (i ≡ j)
     go (leaf a) (leaf b) p q u w g = (law .leaf-once n k a hn hk p (q ∙ ap leaf (sym g)), omega arith)
     go (leaf a) (join m o l r) p q u w g = absurd (omega (arith, law .leaf-low n a hn p, law .join-high k m o l r hk q))
     go (join m o l r) (leaf b) p q u w g = absurd (omega (arith, law .leaf-low k b hk q, law .join-high n m o l r hn p))
@@ -341,7 +341,7 @@ numbered-apart start t law n k i j hn hk i₁ i₂ j₁ j₂ e = go (at t n) (at
 -- A table whose joins fit is well made.
 pub sized-ok : (t : List Node) → Sized t → Ok t
 unfolding Sized Ok Fit Below
-sized-ok t sz n h = go (at t n) (sz n h)
+sized-ok t sz n h = go (nodeAt t n) (sz n h)
   where
     go : (a : Node) → Fit t n a → Below n a
     go (leaf a) f = tt

@@ -5,7 +5,7 @@ use mathlib.Core.List.{List, List·Memᴰ, List·Memᴰ·not-nil}
 use Prim.Native.Nat.{ℕ, suc, _-_, _≤_, _<_}
 use native.Mathlib.Omega.{arith}
 use Rattle.memo.proofs.Lists.{of-three}
-use Rattle.totdb.specs.Nodes.{Node, at, len, sideLen}
+use Rattle.totdb.specs.Nodes.{Node, nodeAt, len, sideLen}
 use Rattle.totdb.specs.declared.Side.{Side}
 use Rattle.cert.specs.Definitions.{Direction, if, only-if, Key, real, window-zero, window, pulls}
 use Rattle.cert.specs.Requests.{Request, request, Lookup, of-side, of-node, Undefined, if-at-zero, only-if-above, node-if-at-zero, node-only-if-above, Clause, ifClause, onlyIfClause, clausesOf, lookedUp, looksOf, Right}
@@ -38,21 +38,21 @@ module _ {t : List Node} {n : ℕ} (v : ℕ) where
   node-if : 1 ≤ v → Available t (of-node n v if)
   node-if h (node-if-at-zero e) = omega arith
 
-  node-only-if : v ≤ len (at t n) → Available t (of-node n v only-if)
+  node-only-if : v ≤ len (nodeAt t n) → Available t (of-node n v only-if)
   node-only-if h (node-only-if-above k) = omega arith
 
   pub node-if-from : Available t (of-node n v if) → 1 ≤ v
   node-if-from a = let k : ¬ (_≡_ {A = ℕ} v 0) = λ e. a (node-if-at-zero {n = n} {v = v} (omega (arith, e))) in omega (arith, k)
 
-  pub node-only-if-to : Available t (of-node n v only-if) → v ≤ len (at t n)
-  node-only-if-to a = let k : ¬ (len (at t n) < v) = λ h. a (node-only-if-above {n = n} {v = v} (omega (arith, h))) in omega (arith, k)
+  pub node-only-if-to : Available t (of-node n v only-if) → v ≤ len (nodeAt t n)
+  node-only-if-to a = let k : ¬ (len (nodeAt t n) < v) = λ h. a (node-only-if-above {n = n} {v = v} (omega (arith, h))) in omega (arith, k)
 
 -- ---- clauses
 
 pub clause-available : (t : List Node) (x : Request) (c : Clause) → Right t x → List·Memᴰ c (clausesOf t x) → (l : Lookup) → List·Memᴰ l (lookedUp c)
     → Available t l
 unfolding clausesOf Right ifClause onlyIfClause
-clause-available t (request n v d) c g m = go (clause-form t n v (at t n) d c m)
+clause-available t (request n v d) c g m = go (clause-form t n v (nodeAt t n) d c m)
   where
     go : {x : Node} {d : Direction} {c : Clause} → ClauseForm t n v x d c → (l : Lookup) → List·Memᴰ l (lookedUp c) → Available t l
     go (an-if {l = l} {r = r} a m) =
@@ -71,10 +71,10 @@ pulled-has t (window-zero m f k) n v d g i = absurd (List·Memᴰ·not-nil i)
 pulled-has t (window m f k) n v d g i =
     ⊎-elim (λ e. absurd (let z : _≡_ {A = ℕ} 0 1 = cc in omega arith))
     (λ q. let e : m ≡ n = let p = q .3 in cc in let w : q .0 ≡ v = let p = q .3 in cc in
-    inside d (omega (arith, q .1, w)) (subst (λ (m : ℕ). v ≤ len (at t m)) e (omega (arith, q .2, w, g .1))))
+    inside d (omega (arith, q .1, w)) (subst (λ (m : ℕ). v ≤ len (nodeAt t m)) e (omega (arith, q .2, w, g .1))))
     (pulls-mem m f k (real n v) i)
   where
-    inside : (d : Direction) → 1 ≤ v → v ≤ len (at t n) → Available t (of-node n v d)
+    inside : (d : Direction) → 1 ≤ v → v ≤ len (nodeAt t n) → Available t (of-node n v d)
     inside if a b = node-if v a
     inside only-if a b = node-only-if v b
 

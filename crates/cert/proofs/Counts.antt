@@ -11,7 +11,7 @@ use Rattle.pb.specs.Sum.{neg}
 use Rattle.memo.proofs.Lists.{flatMap-append}
 use Rattle.record.specs.Record.{Record, steps, sum, derivation, clause, deletion, clauses}
 use Rattle.record.specs.Steps.{Defined, derived}
-use Rattle.totdb.specs.Nodes.{Node, len, leaves, at, range, outputs}
+use Rattle.totdb.specs.Nodes.{Node, len, leaves, nodeAt, range, outputs}
 use Rattle.cert.specs.Counted.{KeyIn, keyNode, CountedIn, Counted}
 use Rattle.cert.specs.Definitions.{realRecords, asWritten, atLeastZero, realIf, realOnlyIf, Key, windowIf, windowOnlyIf, windowIfSum, windowOnlyIfSum, keyRecords, definedBy, real, window-zero, window}
 use Rattle.cert.specs.Requests.{Clause, clauseTokens, Request}
@@ -50,11 +50,11 @@ windows-count f n x o m (v ∷ vs) = omega (arith, windows-count f n x o m vs)
 
 pub key-count : (f : Key → ℕ → ℕ) (t : List Node) (k : Key) → steps (keyRecords f t k) ≡ length (definedBy t k)
 unfolding keyRecords definedBy
-key-count f t (real n v) = real-count (at t n) v
+key-count f t (real n v) = real-count (nodeAt t n) v
 key-count f t (window-zero n o m) = unfold steps atLeastZero in refl
-key-count f t (window n o m) = simp (steps-append, length-append) (omega (arith, windows-count f n (at t n) o m (range (o + 1) m), one))
+key-count f t (window n o m) = simp (steps-append, length-append) (omega (arith, windows-count f n (nodeAt t n) o m (range (o + 1) m), one))
   where
-    one : steps (atLeastZero (map neg (outputs (at t n) o m)) ∷ []) ≡ 1
+    one : steps (atLeastZero (map neg (outputs (nodeAt t n) o m)) ∷ []) ≡ 1
     one = unfold steps atLeastZero in refl
 
 -- Later nodes change no definition.

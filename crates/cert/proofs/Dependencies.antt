@@ -7,7 +7,7 @@ use native.Mathlib.Decide.{decLe}
 use native.Mathlib.Omega.{arith}
 use Rattle.memo.specs.Closure.{SameMembers}
 use Rattle.memo.proofs.Lists.{flatMap-append, flatMap-map, flatMap-agree, mem-flatMap, of-flatMap}
-use Rattle.totdb.specs.Nodes.{Node, leaf, join, at, leaves, len, sideLen}
+use Rattle.totdb.specs.Nodes.{Node, leaf, join, nodeAt, leaves, len, sideLen}
 use Rattle.totdb.specs.declared.Side.{Side}
 use Rattle.cert.specs.Definitions.{Direction, if, only-if}
 use Rattle.cert.specs.Requests.{Request, request, splits, positive, within, named, below, needsAt, needs, Right}
@@ -159,7 +159,7 @@ module _ (t : List Node) (ls : List ℕ) (o : ℕ) (l r : Side) where
 
 pub dependencies-needs : (t : List Node) (x : Request) → Right t x → SameMembers (dependencies t x) (needs t x)
 unfolding dependencies dependenciesAt needs needsAt Right
-dependencies-needs t (request n v d) h = go (at t n) d v (h .1) (h .2)
+dependencies-needs t (request n v d) h = go (nodeAt t n) d v (h .1) (h .2)
   where
     go : (a : Node) (d : Direction) (v : ℕ) → 1 ≤ v → v ≤ len a → SameMembers (dependenciesAt t a d v) (needsAt t a v d)
     go (leaf a) d v low high = λ y. (λ m. m, λ m. m)
@@ -169,5 +169,5 @@ dependencies-needs t (request n v d) h = go (at t n) d v (h .1) (h .2)
 
 -- a request that meets the hypothesis
 pub met-dependencies : SameMembers (dependencies three (request 4 2 only-if)) (needs three (request 4 2 only-if))
-unfolding three at leaves len Right
+unfolding three nodeAt leaves len Right
 met-dependencies = dependencies-needs three (request 4 2 only-if) (omega arith, omega arith, omega arith)

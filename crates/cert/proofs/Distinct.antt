@@ -9,7 +9,7 @@ use native.Mathlib.Omega.{arith}
 use lib.ListN.{length, length-append}
 use Rattle.pb.specs.Sum.{variable, units}
 use Rattle.pb.proofs.Normal.{Off, Apart}
-use Rattle.totdb.specs.Nodes.{Node, len, at, output, leaf, taken, leaves, join, range, isOver, sideLeaves, outputs}
+use Rattle.totdb.specs.Nodes.{Node, len, nodeAt, output, leaf, taken, leaves, join, range, isOver, sideLeaves, outputs}
 use Rattle.totdb.specs.declared.Side.{Side}
 use Rattle.cert.proofs.Apart.{range-mem}
 use Rattle.cert.proofs.Rules.{at-more, sideLeaves-more}
@@ -51,16 +51,16 @@ pub record Owner (t : List Node) (n l : ℕ) : Type 0 where
   pub value : ℕ
   pub there : node < length t
   pub low : 1 ≤ value
-  pub high : value ≤ len (at t node)
-  pub is : l ≡ output (at t node) value
-  pub below : ((node ≡ n) × (at t n ≡ leaf l)) ⊎ ((taken t node ≡ true) × (node < n))
+  pub high : value ≤ len (nodeAt t node)
+  pub is : l ≡ output (nodeAt t node) value
+  pub below : ((node ≡ n) × (nodeAt t n ≡ leaf l)) ⊎ ((taken t node ≡ true) × (node < n))
 
 -- The outputs of a join's left node, all of them, are over no variable that its right side hands on.
 unfoldable pub LeftApart : List Node → Node → Type 0
 LeftApart t (leaf l) = Unit {0}
 LeftApart t (join ls o l r) =
     (l .node < length t) × (r .node < length t)
-    × ((i m : ℕ) → 1 ≤ i → i ≤ len (at t (l .node)) → List·Memᴰ m (sideLeaves t r) → variable (output (at t (l .node)) i) ≢ variable m)
+    × ((i m : ℕ) → 1 ≤ i → i ≤ len (nodeAt t (l .node)) → List·Memᴰ m (sideLeaves t r) → variable (output (nodeAt t (l .node)) i) ≢ variable m)
 
 left-more : (t u : List Node) (x : Node) → LeftApart t x → LeftApart (t ++ u) x
 unfolding LeftApart
@@ -72,12 +72,12 @@ left-more t u (join ls o l r) h = (
 )
 
 pub record Distinct (t : List Node) : Type 0 where
-  pub outputs : (n m i j : ℕ) → n < length t → m < length t → n ≢ m → 1 ≤ i → i ≤ len (at t n) → 1 ≤ j → j ≤ len (at t m)
-      → variable (output (at t n) i) ≢ variable (output (at t m) j)
-  pub within : (n : ℕ) → n < length t → Different (leaves (at t n))
-  pub between : (n m : ℕ) → n < length t → m < length t → n ≢ m → taken t n ≡ false → taken t m ≡ false → Disjoint (leaves (at t n)) (leaves (at t m))
-  pub owners : (n l : ℕ) → n < length t → List·Memᴰ l (leaves (at t n)) → Owner t n l
-  pub lefts : (n : ℕ) → n < length t → LeftApart t (at t n)
+  pub outputs : (n m i j : ℕ) → n < length t → m < length t → n ≢ m → 1 ≤ i → i ≤ len (nodeAt t n) → 1 ≤ j → j ≤ len (nodeAt t m)
+      → variable (output (nodeAt t n) i) ≢ variable (output (nodeAt t m) j)
+  pub within : (n : ℕ) → n < length t → Different (leaves (nodeAt t n))
+  pub between : (n m : ℕ) → n < length t → m < length t → n ≢ m → taken t n ≡ false → taken t m ≡ false → Disjoint (leaves (nodeAt t n)) (leaves (nodeAt t m))
+  pub owners : (n l : ℕ) → n < length t → List·Memᴰ l (leaves (nodeAt t n)) → Owner t n l
+  pub lefts : (n : ℕ) → n < length t → LeftApart t (nodeAt t n)
 
 pub distinct-nil : Distinct []
 distinct-nil = record {
@@ -93,22 +93,22 @@ true≢false e = let z : _≡_ {A = ℕ} 0 1 = cc in omega arith
 
 module _ (t : List Node) (d : Distinct t) where
   -- A literal of n's leaf list is no output of another node that stands under no join.
-  pub owner-apart : (n m l j : ℕ) → n < length t → m < length t → n ≢ m → taken t m ≡ false → List·Memᴰ l (leaves (at t n)) → 1 ≤ j → j ≤ len (at t m)
-      → variable l ≢ variable (output (at t m) j)
+  pub owner-apart : (n m l j : ℕ) → n < length t → m < length t → n ≢ m → taken t m ≡ false → List·Memᴰ l (leaves (nodeAt t n)) → 1 ≤ j → j ≤ len (nodeAt t m)
+      → variable l ≢ variable (output (nodeAt t m) j)
   owner-apart n m l j hn hm ne free i a b =
       let o = d .owners n l hn i in
       let other : o .node ≢ m = ⊎-elim (λ p. λ e. ne (sym (p .0) ∙ e)) (λ p. λ e. true≢false (sym (p .0) ∙ ap (taken t) e ∙ free)) (o .below) in
-      subst (λ (x : ℕ). variable x ≢ variable (output (at t m) j)) (sym (o .is))
+      subst (λ (x : ℕ). variable x ≢ variable (output (nodeAt t m) j)) (sym (o .is))
       (d .outputs (o .node) m (o .value) j (o .there) hm other (o .low) (o .high) a b)
 
   -- Nor is it one of n's own outputs, where n is a join.
-  pub own-apart : (n l j : ℕ) (ls : List ℕ) (o : ℕ) (a b : Side) → n < length t → at t n ≡ join ls o a b → List·Memᴰ l (leaves (at t n)) → 1 ≤ j
-      → j ≤ len (at t n) → variable l ≢ variable (output (at t n) j)
+  pub own-apart : (n l j : ℕ) (ls : List ℕ) (o : ℕ) (a b : Side) → n < length t → nodeAt t n ≡ join ls o a b → List·Memᴰ l (leaves (nodeAt t n)) → 1 ≤ j
+      → j ≤ len (nodeAt t n) → variable l ≢ variable (output (nodeAt t n) j)
   own-apart n l j ls o a b hn e i x y =
       let w = d .owners n l hn i in
       let other : w .node ≢ n =
       ⊎-elim (λ p. absurd (let q = p .1 in let z : _≡_ {A = ℕ} 0 1 = cc in omega arith)) (λ p. λ q. absurd (omega (arith, p .1))) (w .below) in
-      subst (λ (k : ℕ). variable k ≢ variable (output (at t n) j)) (sym (w .is))
+      subst (λ (k : ℕ). variable k ≢ variable (output (nodeAt t n) j)) (sym (w .is))
       (d .outputs (w .node) n (w .value) j (w .there) hn other (w .low) (w .high) x y)
 
 -- The outputs of a node are over different variables.
@@ -147,7 +147,7 @@ module _ (t : List Node) (a : Node) where
       by (yes e) = inl e
       by (no e) = inr (omega (arith, length-snoc t a))
 
-  pub old : (n : ℕ) → n < length t → at (t ++ (a ∷ [])) n ≡ at t n
+  pub old : (n : ℕ) → n < length t → nodeAt (t ++ (a ∷ [])) n ≡ nodeAt t n
   old n h = sym (at-more t (a ∷ []) n h)
 
   free-old : (n : ℕ) → taken (t ++ (a ∷ [])) n ≡ false → (taken t n ≡ false) × (isOver n a ≡ false)
@@ -166,13 +166,13 @@ module _ (t : List Node) (a : Node) where
   }
 
   module _ (d : Distinct t)
-      (new-outputs : (n i j : ℕ) → n < length t → 1 ≤ i → i ≤ len (at t n) → 1 ≤ j → j ≤ len a → variable (output (at t n) i) ≢ variable (output a j))
+      (new-outputs : (n i j : ℕ) → n < length t → 1 ≤ i → i ≤ len (nodeAt t n) → 1 ≤ j → j ≤ len a → variable (output (nodeAt t n) i) ≢ variable (output a j))
       (new-within : Different (leaves a))
-      (new-between : (n : ℕ) → n < length t → taken t n ≡ false → isOver n a ≡ false → Disjoint (leaves (at t n)) (leaves a))
+      (new-between : (n : ℕ) → n < length t → taken t n ≡ false → isOver n a ≡ false → Disjoint (leaves (nodeAt t n)) (leaves a))
       (new-owners : (l : ℕ) → List·Memᴰ l (leaves a) → Owner (t ++ (a ∷ [])) (length t) l)
       (new-left : LeftApart t a) where
-    outputs-two : (n m i j : ℕ) → (n < length t) ⊎ (n ≡ length t) → (m < length t) ⊎ (m ≡ length t) → n ≢ m → 1 ≤ i → i ≤ len (at (t ++ (a ∷ [])) n)
-        → 1 ≤ j → j ≤ len (at (t ++ (a ∷ [])) m) → variable (output (at (t ++ (a ∷ [])) n) i) ≢ variable (output (at (t ++ (a ∷ [])) m) j)
+    outputs-two : (n m i j : ℕ) → (n < length t) ⊎ (n ≡ length t) → (m < length t) ⊎ (m ≡ length t) → n ≢ m → 1 ≤ i → i ≤ len (nodeAt (t ++ (a ∷ [])) n)
+        → 1 ≤ j → j ≤ len (nodeAt (t ++ (a ∷ [])) m) → variable (output (nodeAt (t ++ (a ∷ [])) n) i) ≢ variable (output (nodeAt (t ++ (a ∷ [])) m) j)
     outputs-two n m i j (inl p) (inl q) ne x y z w = rw (old n p, old m q) (d .outputs n m i j p q ne x (rw (old n p) at y) z (rw (old m q) at w))
     outputs-two n m i j (inl p) (inr q) ne x y z w =
         rw (old n p, q, at-last t a) (new-outputs n i j p x (rw (old n p) at y) z (rw (q, at-last t a) at w))
@@ -181,7 +181,7 @@ module _ (t : List Node) (a : Node) where
     outputs-two n m i j (inr p) (inr q) ne x y z w = absurd (ne (p ∙ sym q))
 
     between-two : (n m : ℕ) → (n < length t) ⊎ (n ≡ length t) → (m < length t) ⊎ (m ≡ length t) → n ≢ m → taken (t ++ (a ∷ [])) n ≡ false
-        → taken (t ++ (a ∷ [])) m ≡ false → Disjoint (leaves (at (t ++ (a ∷ [])) n)) (leaves (at (t ++ (a ∷ [])) m))
+        → taken (t ++ (a ∷ [])) m ≡ false → Disjoint (leaves (nodeAt (t ++ (a ∷ [])) n)) (leaves (nodeAt (t ++ (a ∷ [])) m))
     between-two n m (inl p) (inl q) ne x y = rw (old n p, old m q) (d .between n m p q ne (free-old n x .0) (free-old m y .0))
     between-two n m (inl p) (inr q) ne x y = rw (old n p, q, at-last t a) (new-between n p (free-old n x .0) (free-old n x .1))
     between-two n m (inr p) (inl q) ne x y =
@@ -195,8 +195,8 @@ module _ (t : List Node) (a : Node) where
       between = λ n m hn hm ne x y. between-two n m (last-or n hn) (last-or m hm) ne x y;
       owners = λ n l h i. ⊎-elim (λ p. owner-more n l p (d .owners n l p (rw (old n p) at i)))
           (λ p. subst (λ (k : ℕ). Owner (t ++ (a ∷ [])) k l) (sym p)
-          (new-owners l (subst (List·Memᴰ l) (ap (λ (k : ℕ). leaves (at (t ++ (a ∷ [])) k)) p ∙ ap leaves (at-last t a)) i))) (last-or n h);
-      lefts = at-snoc t a (λ n b. LeftApart (t ++ (a ∷ [])) b) (λ n h. left-more t (a ∷ []) (at t n) (d .lefts n h))
+          (new-owners l (subst (List·Memᴰ l) (ap (λ (k : ℕ). leaves (nodeAt (t ++ (a ∷ [])) k)) p ∙ ap leaves (at-last t a)) i))) (last-or n h);
+      lefts = at-snoc t a (λ n b. LeftApart (t ++ (a ∷ [])) b) (λ n h. left-more t (a ∷ []) (nodeAt t n) (d .lefts n h))
           (left-more t (a ∷ []) a new-left);
     }
 

@@ -5,7 +5,7 @@ use Prim.Native.Nat.{ℕ, suc, _+_, _-_, _≤_, _<_}
 use native.Mathlib.Omega.{arith}
 use lib.ListN.{length}
 use Rattle.memo.proofs.Serve.{Falls}
-use Rattle.totdb.specs.Nodes.{Node, len, at, sideLen, join}
+use Rattle.totdb.specs.Nodes.{Node, len, nodeAt, sideLen, join}
 use Rattle.totdb.specs.declared.Side.{Side}
 use Rattle.cert.specs.Definitions.{Key, real, window-zero, window, pulls, Direction, if, only-if, realDef, sideDef}
 use Rattle.cert.specs.Equal.{keyRank}
@@ -17,9 +17,9 @@ use Rattle.cert.proofs.Pulls.{pulls-mem}
 
 -- A key inside its node.
 unfoldable pub KeyFits : List Node → Key → Type 0
-KeyFits t (real n v) = (n < length t) × (v ≤ len (at t n) + 1)
-KeyFits t (window-zero n f m) = (n < length t) × (f + m ≤ len (at t n)) × (1 < m)
-KeyFits t (window n f m) = (n < length t) × (f + m ≤ len (at t n)) × (1 < m)
+KeyFits t (real n v) = (n < length t) × (v ≤ len (nodeAt t n) + 1)
+KeyFits t (window-zero n f m) = (n < length t) × (f + m ≤ len (nodeAt t n)) × (1 < m)
+KeyFits t (window n f m) = (n < length t) × (f + m ≤ len (nodeAt t n)) × (1 < m)
 
 pulls-fit : (t : List Node) (k j : Key) → KeyFits t k → List·Memᴰ j (pulls k) → KeyFits t j × (keyRank j < keyRank k)
 unfolding pulls KeyFits keyRank
@@ -39,7 +39,7 @@ right-in t (request n v d) g = g .0
 pub request-falls : (t : List Node) → Sized t → Falls (needs t) (Right t) nodeOf
 request-falls t sz = record { good = right-needs t sz; lower = λ x y g m. needs-fall t (sized-ok t sz) .lower x y (right-in t x g) m }
 
-side-fits : (t : List Node) (s : Side) (i : ℕ) (d : Direction) → s .node < length t → s .offset + sideLen t s ≤ len (at t (s .node))
+side-fits : (t : List Node) (s : Side) (i : ℕ) (d : Direction) → s .node < length t → s .offset + sideLen t s ≤ len (nodeAt t (s .node))
     → i ≤ sideLen t s + 1 → AllKeys (KeyFits t) (sideDef t s i d)
 unfolding KeyFits
 side-fits t s i d h g l = side-keys (KeyFits t) t s i d (h, omega arith) (λ m. (h, g, m))
@@ -47,7 +47,7 @@ side-fits t s i d h g l = side-keys (KeyFits t) t s i d (h, omega arith) (λ m. 
 pub looked-fit : (t : List Node) → Sized t → (x : Request) (c : Clause) (k : Key) → Right t x → List·Memᴰ c (clausesOf t x) → List·Memᴰ k (looksOf t c)
     → KeyFits t k
 unfolding clausesOf Right Fit Sized KeyFits definition ifClause onlyIfClause
-looked-fit t sz (request n v d) c k g m h = go (sz n (g .0)) (clause-form t n v (at t n) d c m) h
+looked-fit t sz (request n v d) c k g m h = go (sz n (g .0)) (clause-form t n v (nodeAt t n) d c m) h
   where
     own : (d : Direction) → AllKeys (KeyFits t) (realDef n v d)
     own d = node-keys (KeyFits t) n v d (g .0, omega (arith, g .2))

@@ -16,7 +16,7 @@ use Rattle.pb.proofs.Normal.{Off, Apart}
 use Rattle.record.specs.Record.{Record, sum, derivation, clause, deletion, steps}
 use Rattle.record.specs.Steps.{Defined, written, derived, sumsAfter, stepSum}
 use Rattle.record.proofs.Steps.{sums-append, sums-grow, sums-length}
-use Rattle.totdb.specs.Nodes.{Node, len, leaves, output, range, join, leaf, at, outputs}
+use Rattle.totdb.specs.Nodes.{Node, len, leaves, output, range, join, leaf, nodeAt, outputs}
 use Rattle.totdb.specs.declared.Side.{Side}
 use Rattle.cert.specs.Definitions.{Key, definedBy, realRecords, realIf, realOnlyIf, atLeastZero, asWritten, real, outputsBefore, outputsAfter, total, ifPart, windowIfSum, onlyIfPart, windowOnlyIfSum, windowIf, windowOnlyIf, pulls, window, keyRecords, window-zero}
 use Rattle.cert.specs.Equal.{key-dec}
@@ -225,26 +225,26 @@ long-join (leaf l) h = absurd (omega arith)
 long-join (join ls o a b) h = (ls, o, a, b, refl)
 
 module _ (h : Head) (t : List Node) (d : Distinct t) (s : State) (k : KnownIn h t s) where
-  pub real-ready : (n v : ℕ) → 1 ≤ v → v ≤ len (at t n) → List·Memᴰ (real n v) (keys s) → (ext : List (Option Sum)) (i : ℕ) (z : Option Sum) → i < 2
-      → getD (some (normal (real-if (leaves (at t n)) (output (at t n) v) v)) ∷ some
-      (normal (real-only-if (leaves (at t n)) (output (at t n) v) v)) ∷ []) i none ≡ z
+  pub real-ready : (n v : ℕ) → 1 ≤ v → v ≤ len (nodeAt t n) → List·Memᴰ (real n v) (keys s) → (ext : List (Option Sum)) (i : ℕ) (z : Option Sum) → i < 2
+      → getD (some (normal (real-if (leaves (nodeAt t n)) (output (nodeAt t n) v) v)) ∷ some
+      (normal (real-only-if (leaves (nodeAt t n)) (output (nodeAt t n) v) v)) ∷ []) i none ≡ z
       → stepSum (h .step) (knownOf h s ++ ext) (stepIn (s .stored) (real n v) i) ≡ z
   unfolding stepIn keys definedBy
   real-ready n v a b m ext i z l e =
       let f = fromIn-found (s .stored) (real n v) m in
       let g = k .sums (f .0) (f .1) in
-      let same : map sumOf (definedBy t (f .0 .key)) ≡ some (normal (real-if (leaves (at t n)) (output (at t n) v) v)) ∷ some
-      (normal (real-only-if (leaves (at t n)) (output (at t n) v) v)) ∷ [] = ap (λ (j : Key). map sumOf (definedBy t j)) (f .2)
-      ∙ real-sums (at t n) v a b in
+      let same : map sumOf (definedBy t (f .0 .key)) ≡ some (normal (real-if (leaves (nodeAt t n)) (output (nodeAt t n) v) v)) ∷ some
+      (normal (real-only-if (leaves (nodeAt t n)) (output (nodeAt t n) v) v)) ∷ [] = ap (λ (j : Key). map sumOf (definedBy t j)) (f .2)
+      ∙ real-sums (nodeAt t n) v a b in
       let seg = segment-more (knownOf h s) ext (g .0) _ (subst (Segment (knownOf h s) (g .0)) same (g .2)) in
-      let at : fromIn (s .stored) (real n v) + i ≡ h .step + g .0 + i = omega (arith, f .3, g .1) in
-      rw at (segment-step (h .step) (knownOf h s ++ ext) (g .0) _ seg i (omega arith) ∙ e)
+      let step-is : fromIn (s .stored) (real n v) + i ≡ h .step + g .0 + i = omega (arith, f .3, g .1) in
+      rw step-is (segment-step (h .step) (knownOf h s ++ ext) (g .0) _ seg i (omega arith) ∙ e)
 
-  window-off : (n f m : ℕ) → n < length t → f + m ≤ len (at t n) → 1 < m → (v : ℕ) → f < v → v ≤ f + m
-      → Off (variable (output (at t n) v)) (units (leaves (at t n)))
+  window-off : (n f m : ℕ) → n < length t → f + m ≤ len (nodeAt t n) → 1 < m → (v : ℕ) → f < v → v ≤ f + m
+      → Off (variable (output (nodeAt t n) v)) (units (leaves (nodeAt t n)))
   window-off n f m hn fits more v a b =
-      let j = long-join (at t n) (omega arith) in
-      off-units (variable (output (at t n) v)) (leaves (at t n))
+      let j = long-join (nodeAt t n) (omega arith) in
+      off-units (variable (output (nodeAt t n) v)) (leaves (nodeAt t n))
       (λ l i e. own-apart t d n l v (j .0) (j .1) (j .2) (j .3) hn (j .4) i (omega arith) (omega arith) (sym e))
 
   pulled : (n f m : ℕ) → ((j : Key) → List·Memᴰ j (pulls (window n f m)) → List·Memᴰ j (keys s)) → (v : ℕ) → f < v → v ≤ f + m
@@ -254,10 +254,10 @@ module _ (h : Head) (t : List Node) (d : Distinct t) (s : State) (k : KnownIn h 
   pub key-sums : (j : Key) → KeyFits t j → ((i : Key) → List·Memᴰ i (pulls j) → List·Memᴰ i (keys s))
       → sumsAfter (h .step) (knownOf h s) (keyRecords (stepIn (s .stored)) t j) ≡ knownOf h s ++ map sumOf (definedBy t j)
   unfolding keyRecords definedBy KeyFits
-  key-sums (real n v) g b = plain-sums (h .step) (knownOf h s) (realRecords (at t n) v) (real-plain (at t n) v)
-  key-sums (window-zero n f m) g b = one-plain (h .step) (knownOf h s) (outputs (at t n) f m)
+  key-sums (real n v) g b = plain-sums (h .step) (knownOf h s) (realRecords (nodeAt t n) v) (real-plain (nodeAt t n) v)
+  key-sums (window-zero n f m) g b = one-plain (h .step) (knownOf h s) (outputs (nodeAt t n) f m)
   key-sums (window n f m) g b =
-      let x = at t n in
+      let x = nodeAt t n in
       let rs = flatMap {B = Record} (λ (v : ℕ). windowIf (stepIn (s .stored)) n x f m v ∷ windowOnlyIf (stepIn (s .stored)) n x f m v ∷ [])
       (range (f + 1) m) in
       let ds = flatMap {B = Defined} (λ (v : ℕ). derived (some (windowIfSum x f m v)) ∷ derived (some (windowOnlyIfSum x f m v)) ∷ [])

@@ -7,7 +7,7 @@ use native.Mathlib.Decide.{ℕ-discrete}
 use native.Mathlib.Omega.{arith}
 use Rattle.memo.specs.Closure.{From, Reach, reach-here, reach-down}
 use Rattle.memo.proofs.Lists.{flatMap-map, map-twice}
-use Rattle.totdb.specs.Nodes.{Node, leaf, join, at, range, sideLen, sideLit, plainOr}
+use Rattle.totdb.specs.Nodes.{Node, leaf, join, nodeAt, range, sideLen, sideLit, plainOr}
 use Rattle.totdb.specs.declared.Side.{Side}
 use Rattle.cert.specs.Definitions.{Direction, if, only-if, Key, real, window, Definition, sideDef, realDef, pulls}
 use Rattle.cert.specs.Lookups.{windowKeys, sideKeys, lookupKeys, usedAt, usedBy, keysOf}
@@ -157,7 +157,7 @@ map-pairs p q σ f = ap (map f) (pairs-splits p q σ) ∙ map-twice (λ (α : �
 -- What the clauses look up is what document 01 lists.
 pub used-are : (t : List Node) (x : Request) → Right t x → map {B = List Lookup} lookedUp (clausesOf t x) ≡ usedBy t x
 unfolding clausesOf clausesAt usedBy usedAt Right ifClause onlyIfClause
-used-are t (request n v d) h = go (at t n) d v (h .1)
+used-are t (request n v d) h = go (nodeAt t n) d v (h .1)
   where
     go : (a : Node) (d : Direction) (v : ℕ) → 1 ≤ v → map {B = List Lookup} lookedUp (clausesAt t n a v d) ≡ usedAt t n a d v
     go (leaf a) d v low = refl
@@ -177,7 +177,7 @@ unfolding lookups clausesOf keysOf Right Sized Fit looksOf definition lookupKeys
 lookups-are t sz (request n v d) h =
     rw (← used-are t (request n v d) h, flatMap-map lookedUp (flatMap {B = Key} (lookupKeys t)) (clausesOf t (request n v d)))
     (covers-flatMap (looksOf t) (λ (c : Clause). flatMap {B = Key} (lookupKeys t) (lookedUp c)) (clausesOf t (request n v d))
-    (λ c m. one (sz n (h .0)) (clause-form t n v (at t n) d c m)))
+    (λ c m. one (sz n (h .0)) (clause-form t n v (nodeAt t n) d c m)))
   where
     one : {x : Node} {d : Direction} {c : Clause} → Fit t n x → ClauseForm t n v x d c → Covers (looksOf t c) (flatMap {B = Key} (lookupKeys t) (lookedUp c))
     one fit (an-if {l = l} {r = r} a m) =

@@ -4,7 +4,7 @@ use mathlib.Core.List.{List, [], _∷_, map, flatMap, List·Memᴰ, List·Memᴰ
 use Prim.Native.Nat.{zero, suc}
 use native.Mathlib.Decide.{decLe, ℕ-discrete}
 use native.Mathlib.Omega.{arith}
-use Rattle.totdb.specs.Nodes.{at, leaves, len, output, outputs, range, limited, sideLen, sideLeaves, sideOutputs, plainOr}
+use Rattle.totdb.specs.Nodes.{nodeAt, leaves, len, output, outputs, range, limited, sideLen, sideLeaves, sideOutputs, plainOr}
 use Rattle.cert.specs.Definitions.{Direction, if, only-if, Key, real, window-zero, window, windowDef, longDef, sideDef, pulls}
 use Rattle.cert.specs.Lookups.{sideKeys, lookupKeys, usedAt, usedBy, keysOf}
 use Rattle.cert.specs.Requests.{Request, request, splits, Lookup, of-node, Clause, ifClause, clausesAt, clausesOf, definition, keyOf, lookedUp, looksOf, lookups, Right}
@@ -40,13 +40,13 @@ cases =
 pub worked : (map (λ (c : Case). dependencies table (c .of)) cases ≡ map (λ (c : Case). c .below) cases)
     × (map (λ (c : Case). keysOf table (c .of)) cases ≡ map (λ (c : Case). c .looked) cases)
 unfolding
-    cases table at leaves len limited range sideLen flatMap decLe ℕ-discrete plainOr dependencies dependenciesAt dependency nameOf schema pairs
+    cases table nodeAt leaves len limited range sideLen flatMap decLe ℕ-discrete plainOr dependencies dependenciesAt dependency nameOf schema pairs
     simplify C1 C2 complement opposite literalAt keysOf usedBy usedAt lookupKeys sideKeys
 worked = (refl, refl)
 
 -- a table and a request that meet the hypotheses of `lookups-are`
 table-sized : Sized table
-unfolding Sized Fit table at leaves len limited sideLen sideLeaves sideOutputs outputs output range plainOr
+unfolding Sized Fit table nodeAt leaves len limited sideLen sideLeaves sideOutputs outputs output range plainOr
 table-sized zero h = tt
 table-sized (suc zero) h = tt
 table-sized (suc (suc zero)) h = tt
@@ -60,16 +60,16 @@ table-sized (suc (suc (suc (suc (suc (suc zero)))))) h =
 table-sized (suc (suc (suc (suc (suc (suc (suc n))))))) h = absurd (omega arith)
 
 pub met-lookups : Covers (lookups table (request 6 2 if)) (keysOf table (request 6 2 if))
-unfolding Right table at leaves len
+unfolding Right table nodeAt leaves len
 met-lookups = lookups-are table table-sized (request 6 2 if) (omega arith, omega arith, omega arith)
 
 -- what meets the hypotheses of `clause-available` and `pulled-available`
 pub met-available : (c : Clause) → List·Memᴰ c (clausesOf table (request 6 3 only-if)) → (l : Lookup) → List·Memᴰ l (lookedUp c) → Available table l
-unfolding Right table at leaves len
+unfolding Right table nodeAt leaves len
 met-available c m = clause-available table (request 6 3 only-if) c (omega arith, omega arith, omega arith) m
 
 pub met-pulled : (d : Direction) → Available table (of-node 5 3 d)
-unfolding Right table at leaves len limited range sideLen splits clausesOf clausesAt ifClause flatMap looksOf definition sideDef longDef plainOr windowDef keyOf pulls decLe
+unfolding Right table nodeAt leaves len limited range sideLen splits clausesOf clausesAt ifClause flatMap looksOf definition sideDef longDef plainOr windowDef keyOf pulls decLe
 met-pulled d =
-    pulled-available table table-sized (request 6 1 if) (ifClause table 6 (at table 6) (side 5 1) (side 3 0) 1 0) (window 5 1 2) 5 3 d
+    pulled-available table table-sized (request 6 1 if) (ifClause table 6 (nodeAt table 6) (side 5 1) (side 3 0) 1 0) (window 5 1 2) 5 3 d
     (omega arith, omega arith, omega arith) (List·Memᴰ·head refl) (List·Memᴰ·head refl) (List·Memᴰ·tail (List·Memᴰ·tail (List·Memᴰ·head refl)))

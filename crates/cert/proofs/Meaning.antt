@@ -13,7 +13,7 @@ use Rattle.pb.specs.Truth.{Assignment, truth, count, value}
 use Rattle.pb.proofs.Truth.{truth-neg, value-units, value-append, value-keep, count-append, count-negs, satisfies-normal, reached-normal}
 use Rattle.record.specs.Record.{Record, sum, derivation, clause, deletion}
 use Rattle.record.specs.Steps.{Defined, derived}
-use Rattle.totdb.specs.Nodes.{Node, at, leaves, len, output, outputs, range}
+use Rattle.totdb.specs.Nodes.{Node, nodeAt, leaves, len, output, outputs, range}
 use Rattle.totdb.proofs.Listed.{length-range}
 use Rattle.cert.specs.Definitions.{real, window-zero, window, realIf, realOnlyIf, atLeastZero, realRecords, windowIfOf, windowOnlyIfOf, outputsBefore, outputsAfter, windowIfSum, windowOnlyIfSum, asWritten, definedBy}
 use Rattle.cert.specs.Meaning.{MeansIf, MeansOnlyIf, MeansNothing, Witness, MeansWindow, means-value, means-last, Means, means-real, means-zero, means-above, means-window-zero, means-window, Meanings}
@@ -190,18 +190,18 @@ if-witness ls o v s h a t = h .exactly a .1 (λ _. t)
 only-if-witness : (ls : List ℕ) (o v : ℕ) (s : Sum) → MeansOnlyIf ls o v s → Witness (neg o) s
 only-if-witness ls o v s h a t = h .exactly a .1 (λ k. absurd (false≢true (sym (ap not k) ∙ sym (truth-neg a o) ∙ t)))
 
-real-means : (t : List Node) (n v : ℕ) → Means t (real n v) (flatMap asWritten (realRecords (at t n) v))
+real-means : (t : List Node) (n v : ℕ) → Means t (real n v) (flatMap asWritten (realRecords (nodeAt t n) v))
 unfolding realRecords realIf realOnlyIf atLeastZero asWritten flatMap sumIn len
-real-means t n zero = means-zero (zero-means (leaves (at t n)))
-real-means t n (suc v) = by (decLt (len (at t n)) (suc v))
+real-means t n zero = means-zero (zero-means (leaves (nodeAt t n)))
+real-means t n (suc v) = by (decLt (len (nodeAt t n)) (suc v))
   where
-    by : (d : Dec (len (at t n) < suc v))
+    by : (d : Dec (len (nodeAt t n) < suc v))
         → Means t (real n (suc v)) (flatMap asWritten
-        (dite d (λ _. atLeastZero (map neg (leaves (at t n))) ∷ []) (λ _. realIf (at t n) (suc v) ∷ realOnlyIf (at t n) (suc v) ∷ [])))
-    by (yes h) = means-above h (zero-means (map neg (leaves (at t n))))
+        (dite d (λ _. atLeastZero (map neg (leaves (nodeAt t n))) ∷ []) (λ _. realIf (nodeAt t n) (suc v) ∷ realOnlyIf (nodeAt t n) (suc v) ∷ [])))
+    by (yes h) = means-above h (zero-means (map neg (leaves (nodeAt t n))))
     by (no h) =
-        let p = real-if-means (at t n) (suc v) (omega arith) in
-        let q = real-only-if-means (at t n) (suc v) in
+        let p = real-if-means (nodeAt t n) (suc v) (omega arith) in
+        let q = real-only-if-means (nodeAt t n) (suc v) in
         means-real {n = n} {v = suc v} (omega arith) (omega arith) p (if-witness _ _ _ _ p) q (only-if-witness _ _ _ _ q)
 
 window-means : (x : Node) (f m : ℕ) (vs : List ℕ) → ((v : ℕ) → List·Memᴰ v vs → (f < v) × (v ≤ f + m))
@@ -217,8 +217,8 @@ window-means x f m (v ∷ vs) h =
 pub meanings : Meanings
 unfolding Meanings definedBy asWritten atLeastZero sumIn
 meanings t (real n v) = real-means t n v
-meanings t (window-zero n f m) = means-window-zero (zero-means (outputs (at t n) f m))
-meanings t (window n f m) = means-window (window-means (at t n) f m (range (f + 1) m) within)
+meanings t (window-zero n f m) = means-window-zero (zero-means (outputs (nodeAt t n) f m))
+meanings t (window n f m) = means-window (window-means (nodeAt t n) f m (range (f + 1) m) within)
   where
     within : (v : ℕ) → List·Memᴰ v (range (f + 1) m) → (f < v) × (v ≤ f + m)
     within v k = let r = range-mem (f + 1) m v k in (omega (arith, r), omega (arith, r))

@@ -8,7 +8,7 @@ use lib.ListN.{length, length-append, List·getD-append}
 use Rattle.memo.proofs.Grow.{World, Grows}
 use Rattle.memo.proofs.Lists.{map-agree, flatMap-agree, of-flatMap, of-three}
 use Rattle.memo.proofs.Serve.{Falls}
-use Rattle.totdb.specs.Nodes.{Node, leaf, join, at, sideLen, sideLit, sideOutputs, outputs, range, sideLeaves, plainOr, leaves}
+use Rattle.totdb.specs.Nodes.{Node, leaf, join, nodeAt, sideLen, sideLit, sideOutputs, outputs, range, sideLeaves, plainOr, leaves}
 use Rattle.totdb.specs.declared.Side.{Side}
 use Rattle.cert.specs.Counted.{KeyIn, keyNode}
 use Rattle.cert.specs.Definitions.{Key, real, window-zero, window, pulls, Direction, Definition, if, only-if, realDef, windowDef, sideDef, windowReals}
@@ -22,7 +22,7 @@ Below n (leaf a) = Unit {0}
 Below n (join ls o l r) = (l .node < n) × (r .node < n)
 
 unfoldable pub Ok : List Node → Type 0
-Ok t = (n : ℕ) → n < length t → Below n (at t n)
+Ok t = (n : ℕ) → n < length t → Below n (nodeAt t n)
 
 unfoldable pub In : List Node → Request → Type 0
 In t x = nodeOf x < length t
@@ -38,8 +38,8 @@ counters = record {
 }
 
 -- Later nodes change no earlier one.
-pub at-more : (t u : List Node) (n : ℕ) → n < length t → at t n ≡ at (t ++ u) n
-unfolding at
+pub at-more : (t u : List Node) (n : ℕ) → n < length t → nodeAt t n ≡ nodeAt (t ++ u) n
+unfolding nodeAt
 at-more t u n h = sym (List·getD-append t u (leaf 0) n h)
 
 pub sideLen-more : (t u : List Node) (s : Side) → s .node < length t → sideLen t s ≡ sideLen (t ++ u) s
@@ -53,18 +53,18 @@ sideLit-more t u s i h = rw (at-more t u (s .node) h)
 sideOutputs-more : (t u : List Node) (s : Side) → s .node < length t → sideOutputs t s ≡ sideOutputs (t ++ u) s
 unfolding sideOutputs
 sideOutputs-more t u s h = ap (λ (x : Node). outputs x (s .offset) (sideLen t s)) (at-more t u (s .node) h)
-    ∙ ap (outputs (at (t ++ u) (s .node)) (s .offset)) (sideLen-more t u s h)
+    ∙ ap (outputs (nodeAt (t ++ u) (s .node)) (s .offset)) (sideLen-more t u s h)
 
 pub sideLeaves-more : (t u : List Node) (s : Side) → s .node < length t → sideLeaves t s ≡ sideLeaves (t ++ u) s
 unfolding sideLeaves
 sideLeaves-more t u s h =
     ap (λ (a : Node). plainOr (s .offset) (s .limit) (leaves a) (sideOutputs t s)) (at-more t u (s .node) h)
-    ∙ ap (plainOr (s .offset) (s .limit) (leaves (at (t ++ u) (s .node)))) (sideOutputs-more t u s h)
+    ∙ ap (plainOr (s .offset) (s .limit) (leaves (nodeAt (t ++ u) (s .node)))) (sideOutputs-more t u s h)
 
 -- The sides of a node of a well made table.
-pub sides-in : (t : List Node) → Ok t → (n : ℕ) → n < length t → Below (length t) (at t n)
+pub sides-in : (t : List Node) → Ok t → (n : ℕ) → n < length t → Below (length t) (nodeAt t n)
 unfolding Ok Below
-sides-in t ok n h = up (at t n) (ok n h)
+sides-in t ok n h = up (nodeAt t n) (ok n h)
   where
     up : (a : Node) → Below n a → Below (length t) a
     up (leaf a) b = tt
@@ -94,7 +94,7 @@ needs-under t (join ls o l r) v d k y b m =
 
 needs-more : (t u : List Node) → Ok t → (x : Request) → In t x → needs t x ≡ needs (t ++ u) x
 unfolding needs In nodeOf needsAt Below
-needs-more t u ok (request n v d) i = rw (← at-more t u n i) (go (at t n) (sides-in t ok n i))
+needs-more t u ok (request n v d) i = rw (← at-more t u n i) (go (nodeAt t n) (sides-in t ok n i))
   where
     go : (a : Node) → Below (length t) a → needsAt t a v d ≡ needsAt (t ++ u) a v d
     go (leaf a) b = refl
@@ -149,7 +149,7 @@ lookups-in : (t : List Node) → Ok t → (x : Request) (k : Key) → In t x →
 unfolding lookups In KeyIn keyNode nodeOf clausesOf Below definition ifClause onlyIfClause
 lookups-in t ok (request n v d) k i m =
     let c = of-flatMap (looksOf t) (clausesOf t (request n v d)) m in
-    go (sides-in t ok n i) (clause-form t n v (at t n) d (c .0) (c .1)) (c .2)
+    go (sides-in t ok n i) (clause-form t n v (nodeAt t n) d (c .0) (c .1)) (c .2)
   where
     go : {x : Node} {d : Direction} {c : Clause} → Below (length t) x → ClauseForm t n v x d c → List·Memᴰ k (looksOf t c) → KeyIn t k
     go b (an-if {ls = ls} {o = o} {l = l} {r = r} a m) h =
@@ -188,7 +188,7 @@ onlyIfClause-more t u n x l r v a hl hr =
 
 pub clauses-more : (t u : List Node) → Ok t → (x : Request) → In t x → clausesOf t x ≡ clausesOf (t ++ u) x
 unfolding clausesOf In nodeOf clausesAt Below
-clauses-more t u ok (request n v d) i = rw (← at-more t u n i) (go (at t n) d (sides-in t ok n i))
+clauses-more t u ok (request n v d) i = rw (← at-more t u n i) (go (nodeAt t n) d (sides-in t ok n i))
   where
     go : (a : Node) (d : Direction) → Below (length t) a → clausesAt t n a v d ≡ clausesAt (t ++ u) n a v d
     go (leaf a) d b = refl
@@ -202,7 +202,7 @@ clauses-more t u ok (request n v d) i = rw (← at-more t u n i) (go (at t n) d 
 -- Nor what it looks up.
 looks-more : (t u : List Node) → Ok t → (x : Request) → In t x → (c : Clause) → List·Memᴰ c (clausesOf t x) → looksOf t c ≡ looksOf (t ++ u) c
 unfolding clausesOf In nodeOf Below looksOf definition ifClause onlyIfClause
-looks-more t u ok (request n v d) i c m = go (sides-in t ok n i) (clause-form t n v (at t n) d c m)
+looks-more t u ok (request n v d) i c m = go (sides-in t ok n i) (clause-form t n v (nodeAt t n) d c m)
   where
     go : {x : Node} {d : Direction} {c : Clause} → Below (length t) x → ClauseForm t n v x d c → looksOf t c ≡ looksOf (t ++ u) c
     go b (an-if {l = l} {r = r} a m) = rw (← sideDef-more t u l a only-if (b .0), ← sideDef-more t u r (v - a) only-if (b .1))
@@ -228,11 +228,11 @@ pulls-in t (window n f k) j i m =
 
 needs-in : (t : List Node) → Ok t → (x y : Request) → In t x → List·Memᴰ y (needs t x) → In t y
 unfolding needs In
-needs-in t ok (request n v d) y i m = needs-under t (at t n) v d (length t) y (sides-in t ok n (unfold nodeOf in i)) m
+needs-in t ok (request n v d) y i m = needs-under t (nodeAt t n) v d (length t) y (sides-in t ok n (unfold nodeOf in i)) m
 
 needs-lower : (t : List Node) → Ok t → (x y : Request) → In t x → List·Memᴰ y (needs t x) → nodeOf y < nodeOf x
 unfolding needs In nodeOf Ok
-needs-lower t ok (request n v d) y i m = needs-under t (at t n) v d n y (ok n i) m
+needs-lower t ok (request n v d) y i m = needs-under t (nodeAt t n) v d n y (ok n i) m
 
 -- The theory of crate `memo` applies to the counters.
 pub counters-grow : Grows counters

@@ -7,7 +7,7 @@ use native.Mathlib.Decide.{decLe, ℕ-discrete}
 use native.Mathlib.Omega.{arith}
 use Rattle.pb.specs.Sum.{neg}
 use Rattle.memo.proofs.Lists.{map-twice, map-agree, flatMap-append, flatMap-map}
-use Rattle.totdb.specs.Nodes.{Node, leaf, join, at, leaves, len, output, range, sideLen, sideLit}
+use Rattle.totdb.specs.Nodes.{Node, leaf, join, nodeAt, leaves, len, output, range, sideLen, sideLit}
 use Rattle.totdb.specs.declared.Side.{Side}
 use Rattle.cert.specs.Definitions.{Direction, if, only-if}
 use Rattle.cert.specs.Requests.{request, splits, Clause, negPart, posPart, ifClause, onlyIfClause, clausesAt, clausesOf, literalsOf}
@@ -219,9 +219,9 @@ module _ (t : List Node) (x : Node) (l r : Side) where
       (sym (append-assoc (posPart t l (suc α)) (posPart t r (suc β)) (neg (output x v) ∷ [])))
 
 -- What a request of value 1 to the length writes is exactly the totalizer's clauses.
-pub clauses-schema : (t : List Node) (n v : ℕ) (d : Direction) → 1 ≤ v → v ≤ len (at t n) → literalsOf t (request n v d) ≡ totalizer t (request n v d)
+pub clauses-schema : (t : List Node) (n v : ℕ) (d : Direction) → 1 ≤ v → v ≤ len (nodeAt t n) → literalsOf t (request n v d) ≡ totalizer t (request n v d)
 unfolding literalsOf clausesOf clausesAt ifClause onlyIfClause totalizer totalizerAt
-clauses-schema t n v d low high = go (at t n) d v low high
+clauses-schema t n v d low high = go (nodeAt t n) d v low high
   where
     go : (x : Node) (d : Direction) (v : ℕ) → 1 ≤ v → v ≤ len x
         → map {B = List ℕ} (λ (c : Clause). c .literals) (clausesAt t n x v d) ≡ totalizerAt t x d v
@@ -247,7 +247,7 @@ clauses-schema t n v d low high = go (at t n) d v low high
 
 -- a request that meets the hypotheses
 pub met-schema : literalsOf three (request 4 2 only-if) ≡ totalizer three (request 4 2 only-if)
-unfolding three at leaves len
+unfolding three nodeAt leaves len
 met-schema = clauses-schema three 4 2 only-if (omega arith) (omega arith)
 
 -- ---- the clauses left out by the values 1 to m, of r_0 and r_(m+1), are true

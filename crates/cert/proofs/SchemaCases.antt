@@ -4,7 +4,7 @@ use mathlib.Core.List.{List, [], _∷_, map, flatMap}
 use Prim.Native.Nat.{ℕ}
 use native.Mathlib.Decide.{decLe, ℕ-discrete}
 use Rattle.pb.specs.Sum.{neg}
-use Rattle.totdb.specs.Nodes.{Node, leaf, join, at, leaves, len, output, range, limited, sideLen, sideLit}
+use Rattle.totdb.specs.Nodes.{Node, leaf, join, nodeAt, leaves, len, output, range, limited, sideLen, sideLit}
 use Rattle.totdb.specs.declared.Side.{Side}
 use Rattle.cert.specs.Definitions.{Direction, if, only-if}
 use Rattle.cert.specs.Requests.{request, splits, negPart, posPart, ifClause, onlyIfClause, clausesAt, clausesOf, literalsOf}
@@ -58,7 +58,7 @@ cases =
 
 pub worked : map (λ (c : Case). c .got) cases ≡ map (λ (c : Case). c .want) cases
 unfolding
-    cases two three at leaves len output limited range sideLen sideLit neg flatMap decLe ℕ-discrete
+    cases two three nodeAt leaves len output limited range sideLen sideLit neg flatMap decLe ℕ-discrete
     totalizer totalizerAt literalOf numberOf schema pairs simplify C1 C2 complement opposite literalAt literalsOf clausesOf clausesAt ifClause onlyIfClause splits negPart
     posPart
 worked = refl

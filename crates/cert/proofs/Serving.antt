@@ -13,7 +13,7 @@ use Rattle.memo.proofs.Machine.{each-still, ask-still, asks-serve, batch-serves
 use Rattle.memo.proofs.Memo.{Log, Works, batch-kept}
 use Rattle.memo.proofs.Serve.{Serves, serves-nil, serves-then, Falls}
 use Rattle.record.specs.Record.{Record, clauses, sum, derivation, clause, deletion}
-use Rattle.totdb.specs.Nodes.{Node, len, leaves, at, range, outputs}
+use Rattle.totdb.specs.Nodes.{Node, len, leaves, nodeAt, range, outputs}
 use Rattle.cert.specs.Counted.{KeyIn}
 use Rattle.cert.specs.Definitions.{realRecords, atLeastZero, realIf, realOnlyIf, Key, windowIf, windowOnlyIf, keyRecords, real, window-zero, window, pulls}
 use Rattle.cert.specs.Equal.{key-dec, keyRank, request-dec}
@@ -49,12 +49,12 @@ windows-no-clauses f n x o m (v ∷ vs) = windows-no-clauses f n x o m vs
 
 pub key-no-clauses : (f : Key → ℕ → ℕ) (t : List Node) (k : Key) → clauses (keyRecords f t k) ≡ []
 unfolding keyRecords
-key-no-clauses f t (real n v) = real-no-clauses (at t n) v
+key-no-clauses f t (real n v) = real-no-clauses (nodeAt t n) v
 key-no-clauses f t (window-zero n o m) = unfold clauses atLeastZero in refl
 key-no-clauses f t (window n o m) =
-    clauses-append (flatMap {B = Record} (λ (v : ℕ). windowIf f n (at t n) o m v ∷ windowOnlyIf f n (at t n) o m v ∷ []) (range (o + 1) m))
-    (atLeastZero (map neg (outputs (at t n) o m)) ∷ [])
-    ∙ rw (windows-no-clauses f n (at t n) o m (range (o + 1) m)) (unfold clauses atLeastZero in refl)
+    clauses-append (flatMap {B = Record} (λ (v : ℕ). windowIf f n (nodeAt t n) o m v ∷ windowOnlyIf f n (nodeAt t n) o m v ∷ []) (range (o + 1) m))
+    (atLeastZero (map neg (outputs (nodeAt t n) o m)) ∷ [])
+    ∙ rw (windows-no-clauses f n (nodeAt t n) o m (range (o + 1) m)) (unfold clauses atLeastZero in refl)
 
 pub define-keys : (t : List Node) (k : Key) (s : State) → keys (define t k s) ≡ keys s ++ (k ∷ [])
 unfolding keys define

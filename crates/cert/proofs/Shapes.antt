@@ -8,7 +8,7 @@ use Rattle.pb.specs.Rules.{Token}
 use Rattle.pb.specs.Sum.{Sum, neg, Term}
 use Rattle.record.specs.Record.{Record, sum, derivation}
 use Rattle.record.specs.Steps.{Defined, written, derived}
-use Rattle.totdb.specs.Nodes.{Node, len, leaves, at, range}
+use Rattle.totdb.specs.Nodes.{Node, len, leaves, nodeAt, range}
 use Rattle.cert.specs.Definitions.{realRecords, asWritten, atLeastZero, realIf, realOnlyIf, Key, windowIf, windowOnlyIf, windowIfSum, windowOnlyIfSum, keyRecords, definedBy, real, window-zero, window}
 
 pub data Shape : List Record → List Defined → Type 0 where
@@ -43,6 +43,6 @@ windows-shape f n x o m (v ∷ vs) = shape-derived (shape-derived (windows-shape
 
 pub key-shape : (f : Key → ℕ → ℕ) (t : List Node) (k : Key) → Shape (keyRecords f t k) (definedBy t k)
 unfolding keyRecords definedBy atLeastZero
-key-shape f t (real n v) = real-shape (at t n) v
+key-shape f t (real n v) = real-shape (nodeAt t n) v
 key-shape f t (window-zero n o m) = shape-sum shape-done
-key-shape f t (window n o m) = shape-append (windows-shape f n (at t n) o m (range (o + 1) m)) (shape-sum shape-done)
+key-shape f t (window n o m) = shape-append (windows-shape f n (nodeAt t n) o m (range (o + 1) m)) (shape-sum shape-done)

@@ -8,7 +8,7 @@ use lib.ListN.{length}
 use Rattle.pb.specs.Sum.{variable, units}
 use Rattle.pb.proofs.Normal.{Off}
 use Rattle.record.specs.Steps.{stepSum}
-use Rattle.totdb.specs.Nodes.{Node, len, join, leaves, at, leaf, sideLit, range, output, sideLen, sideLeaves, plainOr, limited, sideOutputs, outputs}
+use Rattle.totdb.specs.Nodes.{Node, len, join, leaves, nodeAt, leaf, sideLit, range, output, sideLen, sideLeaves, plainOr, limited, sideOutputs, outputs}
 use Rattle.totdb.specs.declared.Side.{Side}
 use Rattle.cert.specs.Definitions.{real, realDef, only-if, stored, if, window, windowDef, Key, pulls, window-zero, Definition, sideDef, oneDef}
 use Rattle.cert.specs.Requests.{of-side, keyOf, defTokens}
@@ -28,14 +28,14 @@ unfolding Fit len leaves
 short-join t n ls o a b c f = omega (arith, f .5, f .7, f .8)
 
 -- A node of length 1 is a leaf.
-short-leaf : (t : List Node) → Sized t → (n : ℕ) → n < length t → len (at t n) ≤ 1 → (l : ℕ) × (at t n ≡ leaf l)
-short-leaf t sz n h g = by (at t n) refl g (unfold Sized in sz n h)
+short-leaf : (t : List Node) → Sized t → (n : ℕ) → n < length t → len (nodeAt t n) ≤ 1 → (l : ℕ) × (nodeAt t n ≡ leaf l)
+short-leaf t sz n h g = by (nodeAt t n) refl g (unfold Sized in sz n h)
   where
-    by : (x : Node) → at t n ≡ x → len x ≤ 1 → Fit t n x → (l : ℕ) × (at t n ≡ leaf l)
+    by : (x : Node) → nodeAt t n ≡ x → len x ≤ 1 → Fit t n x → (l : ℕ) × (nodeAt t n ≡ leaf l)
     by (leaf l) e a f = (l, e)
     by (join ls o a b) e c f = absurd (short-join t n ls o a b c f)
 
-one-output : (t : List Node) (c : Side) → outputs (at t (c .node)) (c .offset) 1 ≡ sideLit t c 1 ∷ []
+one-output : (t : List Node) (c : Side) → outputs (nodeAt t (c .node)) (c .offset) 1 ≡ sideLit t c 1 ∷ []
 unfolding outputs sideLit range
 one-output t c = refl
 
@@ -45,34 +45,34 @@ own-key e i = rw i (List·Memᴰ·head refl)
 
 module _ (h : Head) (t : List Node) (sz : Sized t) (d : Distinct t) (s : State) (k : KnownIn h t s)
     (closed : (i j : Key) → List·Memᴰ i (keys s) → List·Memᴰ j (pulls i) → List·Memᴰ j (keys s)) where
-  pub node-off : (n : ℕ) → n < length t → 1 < len (at t n) → (v : ℕ) → 1 ≤ v → v ≤ len (at t n)
-      → Off (variable (output (at t n) v)) (units (leaves (at t n)))
+  pub node-off : (n : ℕ) → n < length t → 1 < len (nodeAt t n) → (v : ℕ) → 1 ≤ v → v ≤ len (nodeAt t n)
+      → Off (variable (output (nodeAt t n) v)) (units (leaves (nodeAt t n)))
   node-off n hn more v a b =
-      let j = long-join (at t n) more in
-      off-units (variable (output (at t n) v)) (leaves (at t n)) (λ l i e. own-apart t d n l v (j .0) (j .1) (j .2) (j .3) hn (j .4) i a b (sym e))
+      let j = long-join (nodeAt t n) more in
+      off-units (variable (output (nodeAt t n) v)) (leaves (nodeAt t n)) (λ l i e. own-apart t d n l v (j .0) (j .1) (j .2) (j .3) hn (j .4) i a b (sym e))
 
   zero-stored : (n f m : ℕ) → List·Memᴰ (window n f m) (keys s) → List·Memᴰ (window-zero n f m) (keys s)
   zero-stored n f m i = closed (window n f m) (window-zero n f m) i (pulls-zero n f m)
 
-  module _ (c : Side) (there : c .node < length t) (fits : c .offset + sideLen t c ≤ len (at t (c .node))) (some-side : 1 ≤ sideLen t c) where
+  module _ (c : Side) (there : c .node < length t) (fits : c .offset + sideLen t c ≤ len (nodeAt t (c .node))) (some-side : 1 ≤ sideLen t c) where
     -- the literals handed on, by the form of the side
-    plain-leaves : c .offset ≡ 0 → c .limit ≡ 0 → (sideLeaves t c ≡ leaves (at t (c .node))) × (sideLen t c ≡ len (at t (c .node)))
+    plain-leaves : c .offset ≡ 0 → c .limit ≡ 0 → (sideLeaves t c ≡ leaves (nodeAt t (c .node))) × (sideLen t c ≡ len (nodeAt t (c .node)))
     plain-leaves e g = (
       unfold sideLeaves in rw (e, g) (unfold plainOr in refl),
       unfold sideLen in rw (e, g) (unfold limited in omega arith),
     )
 
-    window-leaves : (0 < c .offset + c .limit) → sideLeaves t c ≡ outputs (at t (c .node)) (c .offset) (sideLen t c)
+    window-leaves : (0 < c .offset + c .limit) → sideLeaves t c ≡ outputs (nodeAt t (c .node)) (c .offset) (sideLen t c)
     unfolding sideLeaves plainOr sideOutputs
     window-leaves g = by (c .offset) (c .limit) g
       where
-        by : (f j : ℕ) → 0 < f + j → plainOr f j (leaves (at t (c .node))) (sideOutputs t c) ≡ sideOutputs t c
+        by : (f j : ℕ) → 0 < f + j → plainOr f j (leaves (nodeAt t (c .node))) (sideOutputs t c) ≡ sideOutputs t c
         by zero zero l = absurd (omega arith)
         by zero (suc j) l = refl
         by (suc f) j l = refl
 
-    plain-long : (e : c .offset ≡ 0) (g : c .limit ≡ 0) (i : ℕ) → (sideLit t c i ≡ output (at t (c .node)) i)
-    plain-long e g i = unfold sideLit in ap (output (at t (c .node))) (omega arith)
+    plain-long : (e : c .offset ≡ 0) (g : c .limit ≡ 0) (i : ℕ) → (sideLit t c i ≡ output (nodeAt t (c .node)) i)
+    plain-long e g i = unfold sideLit in ap (output (nodeAt t (c .node))) (omega arith)
 
     -- One literal handed on.
     single : sideLen t c ≤ 1 → sideLeaves t c ≡ sideLit t c 1 ∷ []
@@ -85,7 +85,7 @@ module _ (h : Head) (t : List Node) (sz : Sized t) (d : Distinct t) (s : State) 
             p .0 ∙ rw (plain-long (omega arith) (omega arith) 1) (rw (q .1) (unfold leaves output in refl))
         by (no e) =
             let m : sideLen t c ≡ 1 = omega arith in
-            window-leaves (omega arith) ∙ ap (outputs (at t (c .node)) (c .offset)) m ∙ one-output t c
+            window-leaves (omega arith) ∙ ap (outputs (nodeAt t (c .node)) (c .offset)) m ∙ one-output t c
 
     module _ (more : 1 < sideLen t c) where
       plain-only : c .offset ≡ 0 → c .limit ≡ 0 → (i : ℕ) → i ≤ sideLen t c → List·Memᴰ (real (c .node) i) (keys s)

@@ -9,25 +9,25 @@ use native.Mathlib.Omega.{arith}
 use borrow.Author.Tests.{eq-eqb, ne-eqb}
 use lib.ListN.{length, length-append}
 use lib.Seq.{getD-append-seam}
-use Rattle.totdb.specs.Nodes.{Node, at, leaf, join, len, limited, sideLen, any, isOver, taken}
+use Rattle.totdb.specs.Nodes.{Node, nodeAt, leaf, join, len, limited, sideLen, any, isOver, taken}
 use Rattle.totdb.specs.declared.Side.{Side}
 use Rattle.cert.specs.Requests.{Request, request, Right}
 use Rattle.cert.specs.Sized.{Fit, Sized, Numbered}
 use Rattle.cert.proofs.Rules.{at-more, sideLen-more, sideLeaves-more}
 
 -- The last node of a table, or one before it.
-pub at-last : (t : List Node) (a : Node) → at (t ++ (a ∷ [])) (length t) ≡ a
-unfolding at
+pub at-last : (t : List Node) (a : Node) → nodeAt (t ++ (a ∷ [])) (length t) ≡ a
+unfolding nodeAt
 at-last t a = getD-append-seam t a [] (leaf 0)
 
 pub length-snoc : (t : List Node) (a : Node) → length (t ++ (a ∷ [])) ≡ length t + 1
 length-snoc t a = length-append t (a ∷ [])
 
-pub at-snoc {ℓ} : (t : List Node) (a : Node) (P : ℕ → Node → Type ℓ) → ((n : ℕ) → n < length t → P n (at t n)) → P (length t) a → (n : ℕ)
-    → n < length (t ++ (a ∷ [])) → P n (at (t ++ (a ∷ [])) n)
+pub at-snoc {ℓ} : (t : List Node) (a : Node) (P : ℕ → Node → Type ℓ) → ((n : ℕ) → n < length t → P n (nodeAt t n)) → P (length t) a → (n : ℕ)
+    → n < length (t ++ (a ∷ [])) → P n (nodeAt (t ++ (a ∷ [])) n)
 at-snoc t a P below here n h = step (decLt n (length t))
   where
-    step : Dec (n < length t) → P n (at (t ++ (a ∷ [])) n)
+    step : Dec (n < length t) → P n (nodeAt (t ++ (a ∷ [])) n)
     step (yes k) = rw (← at-more t (a ∷ []) n k) (below n k)
     step (no k) = let e : n ≡ length t = omega (arith, length-snoc t a) in rw (e, at-last t a) here
 
@@ -53,7 +53,7 @@ sized-nil n h = absurd (omega arith)
 pub sized-snoc : (t : List Node) (a : Node) → Sized t → Fit t (length t) a → Sized (t ++ (a ∷ []))
 unfolding Sized
 sized-snoc t a sz f =
-    at-snoc t a (λ n b. Fit (t ++ (a ∷ [])) n b) (λ n h. fit-more t (a ∷ []) n (at t n) (omega arith) (sz n h))
+    at-snoc t a (λ n b. Fit (t ++ (a ∷ [])) n b) (λ n h. fit-more t (a ∷ []) n (nodeAt t n) (omega arith) (sz n h))
     (fit-more t (a ∷ []) (length t) a (omega arith) f)
 
 pub numbered-nil : (start : ℕ) → Numbered start []
@@ -65,11 +65,11 @@ numbered-nil start = record {
 }
 
 -- A node of the longer table is an old one or the new one.
-pub old-or-new : (t : List Node) (a : Node) (n : ℕ) (b : Node) → n < length (t ++ (a ∷ [])) → at (t ++ (a ∷ [])) n ≡ b
-    → ((n < length t) × (at t n ≡ b)) ⊎ ((n ≡ length t) × (a ≡ b))
+pub old-or-new : (t : List Node) (a : Node) (n : ℕ) (b : Node) → n < length (t ++ (a ∷ [])) → nodeAt (t ++ (a ∷ [])) n ≡ b
+    → ((n < length t) × (nodeAt t n ≡ b)) ⊎ ((n ≡ length t) × (a ≡ b))
 old-or-new t a n b h e = step (decLt n (length t))
   where
-    step : Dec (n < length t) → ((n < length t) × (at t n ≡ b)) ⊎ ((n ≡ length t) × (a ≡ b))
+    step : Dec (n < length t) → ((n < length t) × (nodeAt t n ≡ b)) ⊎ ((n ≡ length t) × (a ≡ b))
     step (yes k) = inl (k, at-more t (a ∷ []) n k ∙ e)
     step (no k) = let z : n ≡ length t = omega (arith, length-snoc t a) in inr (z, sym (at-last t a) ∙ (rw z at e))
 
@@ -77,7 +77,7 @@ leaf≢join : {a : ℕ} {m : List ℕ} {o : ℕ} {l r : Side} → leaf a ≡ joi
 leaf≢join p = let z : _≡_ {A = ℕ} 0 1 = cc in omega arith
 
 module _ (start : ℕ) (t : List Node) (law : Numbered start t) where
-  pub numbered-leaf : (c : ℕ) → c < 2 * start → ((n : ℕ) → n < length t → at t n ≡ leaf c → ⊥) → Numbered start (t ++ (leaf c ∷ []))
+  pub numbered-leaf : (c : ℕ) → c < 2 * start → ((n : ℕ) → n < length t → nodeAt t n ≡ leaf c → ⊥) → Numbered start (t ++ (leaf c ∷ []))
   numbered-leaf c low new = record {
     leaf-low = λ n a h e. ⊎-elim (λ i. law .leaf-low n a (i .0) (i .1)) (λ i. let p = i .1 in let q : c ≡ a = cc in omega arith)
         (split n (leaf a) h e);
@@ -91,12 +91,12 @@ module _ (start : ℕ) (t : List Node) (law : Numbered start t) where
         (split k (join m′ o′ l′ r′) g q);
   }
     where
-      split : (n : ℕ) (b : Node) → n < length (t ++ (leaf c ∷ [])) → at (t ++ (leaf c ∷ [])) n ≡ b
-          → ((n < length t) × (at t n ≡ b)) ⊎ ((n ≡ length t) × (leaf c ≡ b))
+      split : (n : ℕ) (b : Node) → n < length (t ++ (leaf c ∷ [])) → nodeAt (t ++ (leaf c ∷ [])) n ≡ b
+          → ((n < length t) × (nodeAt t n ≡ b)) ⊎ ((n ≡ length t) × (leaf c ≡ b))
       split n b h e = old-or-new t (leaf c) n b h e
 
   pub numbered-join : (c : List ℕ) (d : ℕ) (f g : Side) → start ≤ d
-      → ((n : ℕ) (m : List ℕ) (o : ℕ) (l r : Side) → n < length t → at t n ≡ join m o l r → o + length m ≤ d)
+      → ((n : ℕ) (m : List ℕ) (o : ℕ) (l r : Side) → n < length t → nodeAt t n ≡ join m o l r → o + length m ≤ d)
       → Numbered start (t ++ (join c d f g ∷ []))
   numbered-join c d f g high after = record {
     leaf-low = λ n a h e. ⊎-elim (λ i. law .leaf-low n a (i .0) (i .1)) (λ i. absurd (leaf≢join (sym (i .1)))) (split n (leaf a) h e);
@@ -113,8 +113,8 @@ module _ (start : ℕ) (t : List Node) (law : Numbered start t) where
         (split n (join m o l r) (omega arith) p);
   }
     where
-      split : (n : ℕ) (b : Node) → n < length (t ++ (join c d f g ∷ [])) → at (t ++ (join c d f g ∷ [])) n ≡ b
-          → ((n < length t) × (at t n ≡ b)) ⊎ ((n ≡ length t) × (join c d f g ≡ b))
+      split : (n : ℕ) (b : Node) → n < length (t ++ (join c d f g ∷ [])) → nodeAt (t ++ (join c d f g ∷ [])) n ≡ b
+          → ((n < length t) × (nodeAt t n ≡ b)) ⊎ ((n ≡ length t) × (join c d f g ≡ b))
       split n b h e = old-or-new t (join c d f g) n b h e
 
 -- A request that was right stays right.
@@ -123,11 +123,11 @@ unfolding Right
 right-more t u (request n v d) h = (omega (arith, h .0, length-append t u), h .1, rw (← at-more t u n (h .0)) (h .2))
 
 -- A side that begins inside its node has a literal.
-pub side-some : (t : List Node) (s : Side) → s .offset < len (at t (s .node)) → 1 ≤ sideLen t s
+pub side-some : (t : List Node) (s : Side) → s .offset < len (nodeAt t (s .node)) → 1 ≤ sideLen t s
 unfolding sideLen
 side-some t s h = by (s .limit)
   where
-    by : (k : ℕ) → 1 ≤ limited k (len (at t (s .node)) - s .offset)
+    by : (k : ℕ) → 1 ≤ limited k (len (nodeAt t (s .node)) - s .offset)
     by zero = unfold limited in omega arith
     by (suc k) = unfold limited in omega arith
 

@@ -9,7 +9,7 @@ use Rattle.pb.specs.Rules.{Token, step, literal, add, divide, saturate}
 use Rattle.pb.specs.Sum.{neg, _·_, Sum, _≥_, units, keep, normal}
 use Rattle.record.specs.Record.{Record, sum, derivation, clause, deletion}
 use Rattle.record.specs.Steps.{Defined, written, derived}
-use Rattle.totdb.specs.Nodes.{Node, at, leaves, len, output, range, sideLen, sideLit, keyed, plainOr, outputs}
+use Rattle.totdb.specs.Nodes.{Node, nodeAt, leaves, len, output, range, sideLen, sideLit, keyed, plainOr, outputs}
 use Rattle.totdb.specs.declared.Side.{Side}
 
 -- The direction of a definition or a request (rustsat's Semantics), for an output of value v. `if`: where at least v of the leaf list are true, the
@@ -141,12 +141,12 @@ windowPair at-step n x f m v = windowIf at-step n x f m v ∷ windowOnlyIf at-st
 -- ---- the records of a key
 
 unfoldable pub keyRecords : (Key → ℕ → ℕ) → List Node → Key → List Record
-unfolding at realRecords atLeastZero outputs windowIf windowOnlyIf flatMap neg
-keyRecords at-step t (real n v) = realRecords (at t n) v
-keyRecords at-step t (window-zero n f m) = atLeastZero (outputs (at t n) f m) ∷ []
+unfolding nodeAt realRecords atLeastZero outputs windowIf windowOnlyIf flatMap neg
+keyRecords at-step t (real n v) = realRecords (nodeAt t n) v
+keyRecords at-step t (window-zero n f m) = atLeastZero (outputs (nodeAt t n) f m) ∷ []
 keyRecords at-step t (window n f m) =
-    flatMap {B = Record} (windowPair at-step n (at t n) f m) (range (f + 1) m)
-    ++ (atLeastZero (map neg (outputs (at t n) f m)) ∷ [])
+    flatMap {B = Record} (windowPair at-step n (nodeAt t n) f m) (range (f + 1) m)
+    ++ (atLeastZero (map neg (outputs (nodeAt t n) f m)) ∷ [])
 
 -- ---- the sums that a key defines: what its records come to
 
@@ -184,10 +184,10 @@ asWritten (clause s ls) = []
 asWritten (deletion ss) = []
 
 unfoldable pub definedBy : List Node → Key → List Defined
-unfolding at realRecords asWritten atLeastZero outputs windowIfSum windowOnlyIfSum flatMap neg
-definedBy t (real n v) = flatMap asWritten (realRecords (at t n) v)
-definedBy t (window-zero n f m) = asWritten (atLeastZero (outputs (at t n) f m))
+unfolding nodeAt realRecords asWritten atLeastZero outputs windowIfSum windowOnlyIfSum flatMap neg
+definedBy t (real n v) = flatMap asWritten (realRecords (nodeAt t n) v)
+definedBy t (window-zero n f m) = asWritten (atLeastZero (outputs (nodeAt t n) f m))
 definedBy t (window n f m) =
-    flatMap {B = Defined} (λ (v : ℕ). derived (some (windowIfSum (at t n) f m v)) ∷ derived (some (windowOnlyIfSum (at t n) f m v)) ∷ [])
+    flatMap {B = Defined} (λ (v : ℕ). derived (some (windowIfSum (nodeAt t n) f m v)) ∷ derived (some (windowOnlyIfSum (nodeAt t n) f m v)) ∷ [])
     (range (f + 1) m)
-    ++ asWritten (atLeastZero (map neg (outputs (at t n) f m)))
+    ++ asWritten (atLeastZero (map neg (outputs (nodeAt t n) f m)))

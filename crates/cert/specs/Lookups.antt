@@ -3,7 +3,7 @@ use mathlib.Core.Logic.{ite}
 use mathlib.Core.List.{List, [], _∷_, _++_, map, flatMap}
 use Prim.Native.Nat.{ℕ, zero, suc, _+_}
 use native.Mathlib.Decide.{ℕ-discrete}
-use Rattle.totdb.specs.Nodes.{Node, leaf, join, at, range, sideLen, plainOr}
+use Rattle.totdb.specs.Nodes.{Node, leaf, join, nodeAt, range, sideLen, plainOr}
 use Rattle.totdb.specs.declared.Side.{Side}
 use Rattle.cert.specs.Definitions.{Direction, if, only-if, Key, real, window-zero, window}
 use Rattle.cert.specs.Requests.{Request, request, Lookup, of-side, of-node}
@@ -39,8 +39,8 @@ usedAt t n (join ls o l r) only-if (suc σ) =
     (pairs (sideLen t l) (sideLen t r) σ)
 
 unfoldable pub usedBy : List Node → Request → List (List Lookup)
-unfolding at usedAt
-usedBy t (request n v d) = usedAt t n (at t n) d v
+unfolding nodeAt usedAt
+usedBy t (request n v d) = usedAt t n (nodeAt t n) d v
 
 unfoldable pub keysOf : List Node → Request → List Key
 unfolding usedBy lookupKeys flatMap

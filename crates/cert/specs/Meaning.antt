@@ -8,7 +8,7 @@ use lib.ListN.{length}
 use Rattle.pb.specs.Sum.{neg, Term, Sum, _≥_}
 use Rattle.pb.specs.Truth.{Assignment, True, count, value, Satisfies}
 use Rattle.record.specs.Steps.{Defined, written, derived}
-use Rattle.totdb.specs.Nodes.{Node, at, leaves, len, output, outputs, range}
+use Rattle.totdb.specs.Nodes.{Node, nodeAt, leaves, len, output, outputs, range}
 use Rattle.cert.specs.Definitions.{Key, real, window-zero, window, definedBy}
 
 -- ---- one sum: literals ls, output o, value v
@@ -46,16 +46,16 @@ pub data MeansWindow (x : Node) (f m : ℕ) : List ℕ → List Defined → Type
 -- A real definition: the if with the output as its witness, then the only-if with the negated output; at value 0 and above the length, one sum and no
 -- witness. A window's value 0, and the rest of it.
 pub data Means (t : List Node) : Key → List Defined → Type 0 where
-  means-real : {n v : ℕ} {ts us : List Term} {b c : ℕ} → 1 ≤ v → v ≤ len (at t n)
-      → MeansIf (leaves (at t n)) (output (at t n) v) v (ts ≥ b) → Witness (output (at t n) v) (ts ≥ b)
-      → MeansOnlyIf (leaves (at t n)) (output (at t n) v) v (us ≥ c) → Witness (neg (output (at t n) v)) (us ≥ c)
-      → Means t (real n v) (written (output (at t n) v + 1) ts b ∷ written (neg (output (at t n) v) + 1) us c ∷ [])
-  means-zero : {n : ℕ} {ts : List Term} {b : ℕ} → MeansNothing (leaves (at t n)) (ts ≥ b) → Means t (real n zero) (written 0 ts b ∷ [])
-  means-above : {n v : ℕ} {ts : List Term} {b : ℕ} → len (at t n) < v → MeansNothing (map neg (leaves (at t n))) (ts ≥ b)
+  means-real : {n v : ℕ} {ts us : List Term} {b c : ℕ} → 1 ≤ v → v ≤ len (nodeAt t n)
+      → MeansIf (leaves (nodeAt t n)) (output (nodeAt t n) v) v (ts ≥ b) → Witness (output (nodeAt t n) v) (ts ≥ b)
+      → MeansOnlyIf (leaves (nodeAt t n)) (output (nodeAt t n) v) v (us ≥ c) → Witness (neg (output (nodeAt t n) v)) (us ≥ c)
+      → Means t (real n v) (written (output (nodeAt t n) v + 1) ts b ∷ written (neg (output (nodeAt t n) v) + 1) us c ∷ [])
+  means-zero : {n : ℕ} {ts : List Term} {b : ℕ} → MeansNothing (leaves (nodeAt t n)) (ts ≥ b) → Means t (real n zero) (written 0 ts b ∷ [])
+  means-above : {n v : ℕ} {ts : List Term} {b : ℕ} → len (nodeAt t n) < v → MeansNothing (map neg (leaves (nodeAt t n))) (ts ≥ b)
       → Means t (real n v) (written 0 ts b ∷ [])
-  means-window-zero : {n f m : ℕ} {ts : List Term} {b : ℕ} → MeansNothing (outputs (at t n) f m) (ts ≥ b)
+  means-window-zero : {n f m : ℕ} {ts : List Term} {b : ℕ} → MeansNothing (outputs (nodeAt t n) f m) (ts ≥ b)
       → Means t (window-zero n f m) (written 0 ts b ∷ [])
-  means-window : {n f m : ℕ} {ds : List Defined} → MeansWindow (at t n) f m (range (f + 1) m) ds → Means t (window n f m) ds
+  means-window : {n f m : ℕ} {ds : List Defined} → MeansWindow (nodeAt t n) f m (range (f + 1) m) ds → Means t (window n f m) ds
 
 -- The sums of every key mean what they are named for.
 unfoldable pub Meanings : Type 0

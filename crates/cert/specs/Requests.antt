@@ -7,7 +7,7 @@ use native.Mathlib.Decide.{decLe}
 use lib.ListN.{length}
 use Rattle.pb.specs.Rules.{Token, step, literal, saturate}
 use Rattle.pb.specs.Sum.{neg}
-use Rattle.totdb.specs.Nodes.{Node, leaf, join, at, len, output, range, sideLen, sideLit}
+use Rattle.totdb.specs.Nodes.{Node, leaf, join, nodeAt, len, output, range, sideLen, sideLit}
 use Rattle.totdb.specs.declared.Side.{Side}
 use Rattle.cert.specs.Definitions.{Direction, if, only-if, Key, Definition, nothing, axiom-of, stored, realDef, sideDef, addSequence}
 
@@ -59,8 +59,8 @@ needsAt t (join ls o l r) v d = below d l (named d v (sideLen t l) (sideLen t r)
 
 -- Left, then right. A leaf needs nothing.
 unfoldable pub needs : List Node → Request → List Request
-unfolding at needsAt
-needs t (request n v d) = needsAt t (at t n) v d
+unfolding nodeAt needsAt
+needs t (request n v d) = needsAt t (nodeAt t n) v d
 
 -- ---- clauses
 
@@ -74,7 +74,7 @@ pub data Undefined (t : List Node) : Lookup → Type 0 where
   if-at-zero : {s : Side} {i : ℕ} → i ≡ 0 → Undefined t (of-side s i if)
   only-if-above : {s : Side} {i : ℕ} → sideLen t s < i → Undefined t (of-side s i only-if)
   node-if-at-zero : {n v : ℕ} → v ≡ 0 → Undefined t (of-node n v if)
-  node-only-if-above : {n v : ℕ} → len (at t n) < v → Undefined t (of-node n v only-if)
+  node-only-if-above : {n v : ℕ} → len (nodeAt t n) < v → Undefined t (of-node n v only-if)
 
 -- A clause with the definitions that its step adds up: this one, plus left, plus right, saturated.
 pub record Clause : Type 0 where
@@ -122,8 +122,8 @@ clausesAt t n (join ls o l r) v only-if = map {B = Clause} (onlyIfClause t n (jo
 
 -- The clauses of a request, in order. A leaf has none.
 unfoldable pub clausesOf : List Node → Request → List Clause
-unfolding at clausesAt
-clausesOf t (request n v d) = clausesAt t n (at t n) v d
+unfolding nodeAt clausesAt
+clausesOf t (request n v d) = clausesAt t n (nodeAt t n) v d
 
 -- ---- lookups and derivation
 
@@ -172,4 +172,4 @@ clauseTokens at-step t c =
 
 -- A request as it is put: the value is one of the node's.
 unfoldable pub Right : List Node → Request → Type 0
-Right t (request n v d) = (n < length t) × (1 ≤ v) × (v ≤ len (at t n))
+Right t (request n v d) = (n < length t) × (1 ≤ v) × (v ≤ len (nodeAt t n))

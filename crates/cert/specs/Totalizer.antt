@@ -8,7 +8,7 @@ use mathlib.Core.List.{List, [], _∷_, map, flatMap}
 use Prim.Native.Nat.{ℕ, zero, suc, _+_}
 use native.Mathlib.Decide.{decLe, ℕ-discrete}
 use Rattle.pb.specs.Sum.{neg}
-use Rattle.totdb.specs.Nodes.{Node, leaf, join, at, len, output, range, sideLen, sideLit}
+use Rattle.totdb.specs.Nodes.{Node, leaf, join, nodeAt, len, output, range, sideLen, sideLit}
 use Rattle.totdb.specs.declared.Side.{Side}
 use Rattle.cert.specs.Definitions.{Direction, if, only-if}
 use Rattle.cert.specs.Requests.{Request, request}
@@ -97,8 +97,8 @@ totalizerAt t (join ls o l r) d v =
     map {B = List ℕ} (map (literalOf t (join ls o l r) l r)) (schema (sideLen t l) (sideLen t r) (len (join ls o l r)) d v)
 
 unfoldable pub totalizer : List Node → Request → List (List ℕ)
-unfolding at totalizerAt
-totalizer t (request n v d) = totalizerAt t (at t n) d v
+unfolding nodeAt totalizerAt
+totalizer t (request n v d) = totalizerAt t (nodeAt t n) d v
 
 -- ---- what a request depends on: for each L_i or R_i in its clauses, negated or not, that side's node, value f + i, same direction
 
@@ -119,5 +119,5 @@ dependenciesAt t (join ls o l r) d v =
     (schema (sideLen t l) (sideLen t r) (len (join ls o l r)) d v)
 
 unfoldable pub dependencies : List Node → Request → List Request
-unfolding at dependenciesAt
-dependencies t (request n v d) = dependenciesAt t (at t n) d v
+unfolding nodeAt dependenciesAt
+dependencies t (request n v d) = dependenciesAt t (nodeAt t n) d v

@@ -5,7 +5,7 @@ use mathlib.Core.List.{List}
 use Prim.Native.Nat.{ℕ, zero, suc, _+_, _-_, _*_, _<_}
 use native.Mathlib.Omega.{arith}
 use lib.ListN.{getD}
-use Rattle.sizes.specs.Sizes.{storeAt}
+use Rattle.sizes.specs.Sizes.{stepStop, storeAt}
 use Rattle.totdb.specs.Nodes.{Node}
 use Rattle.pb.specs.Sum.{neg}
 use Rattle.cert.specs.Definitions.{Key, real, window-zero, window, oneDef, realDef, windowDef}
@@ -31,6 +31,10 @@ module _ {t : List Node} {store : List ℕ} {es : List Stored} (f : FirstsOf t s
   real-read n (suc v) true u =
       ap Step (ap nextStep (f .firsts .is (real n (suc v)) u) ∙ step-after (fromIn es (real n (suc v))) 1 (f .few (real n (suc v))))
   real-read n (suc v) false u = ap Step (f .firsts .is (real n (suc v)) u ∙ omega arith)
+
+  pub first-low : (n v : ℕ) → Used t (real n v) → getD store (storeAt n + v) 0 < stepStop
+  unfolding slot
+  first-low n v u = omega (arith, f .firsts .is (real n v) u, f .few (real n v))
 
   module _ {n o m p : ℕ} (w : WindowOf t n o m) (e : windowAt t n o m ≡ p) where
     after-first : (k : ℕ) → stepAfter (getD store (p + 1) 0) k ≡ stepIn es (window n o m) (suc k)

@@ -9,7 +9,7 @@ use native.Mathlib.Omega.{arith}
 use lib.ListN.{length, getD}
 use Rattle.sizes.specs.Sizes.{width, storeAt}
 use Rattle.pb.specs.Sum.{neg}
-use Rattle.totdb.specs.Nodes.{Node, at, len, leaves, output, fromFirst, sideLen, sideLit, plainOr, keyed}
+use Rattle.totdb.specs.Nodes.{Node, nodeAt, len, leaves, output, fromFirst, sideLen, sideLit, plainOr, keyed}
 use Rattle.totdb.specs.declared.Side.{Side}
 use Rattle.totdb.proofs.Sides.{keyed-zero, keyed-above, plain-keyed}
 use Rattle.cert.specs.Definitions.{Direction, window, oneDef, sideDef}
@@ -45,7 +45,7 @@ module _ {t : List Node} (b : Bounded t) {s : Shown} where
   side-literal a o h k =
       let f = side-inside b (o .of) in
       ap (λ (first : ℕ). fromFirst first (s .side .offset + a)) (o .first)
-      ∙ sym (from-first (at t (s .side .node)) (s .side .offset + a) (omega arith) (omega (arith, f .1, o .length)))
+      ∙ sym (from-first (nodeAt t (s .side .node)) (s .side .offset + a) (omega arith) (omega (arith, f .1, o .length)))
 
   pub side-reach : {a : ℕ} → SideIn t s a → SideReach s a
   side-reach i =
@@ -69,16 +69,16 @@ module _ {t : List Node} (b : Bounded t) {s : Shown} where
 -- ---- a join and its clauses
 
 -- A join is as long as its sides.
-pub join-fits : {t : List Node} {x : Join} → Bounded t → JoinOf t x → len (at t (x .node)) ≡ x .left .len + x .right .len
+pub join-fits : {t : List Node} {x : Join} → Bounded t → JoinOf t x → len (nodeAt t (x .node)) ≡ x .left .len + x .right .len
 unfolding Sized Fit len leaves
 join-fits {t} {x} b i =
     let f = subst (Fit t (x .node)) (i .is) (b .sized (x .node) (i .there)) in
     ap (λ (y : Node). len y) (i .is) ∙ f .5 ∙ rw (i .left .length, i .right .length)
 
 module _ {t : List Node} {x : Join} where
-  pub last-literal : {v : ℕ} → JoinIn t x v → fromFirst (x .first) v ≡ output (at t (x .node)) v
+  pub last-literal : {v : ℕ} → JoinIn t x v → fromFirst (x .first) v ≡ output (nodeAt t (x .node)) v
   last-literal {v} i =
-      ap (λ (first : ℕ). fromFirst first v) (i .of .first) ∙ sym (from-first (at t (x .node)) v (i .above) (i .within))
+      ap (λ (first : ℕ). fromFirst first v) (i .of .first) ∙ sym (from-first (nodeAt t (x .node)) v (i .above) (i .within))
 
   module _ {v i j : ℕ} {b : Bool} (k : ClauseIn t x v i j b) where
     pub left-in : SideIn t (x .left) i
@@ -187,7 +187,7 @@ module _ {t : List Node} (b : Bounded t) {s : Shown} {a : ℕ} (i : SideIn t s a
         let d = window-side t (s .side) a (direction q) (omega (arith, h, i .shown .length)) p in
         let w : WindowOf t (s .side .node) (s .side .offset) (sideLen t (s .side))
         = record {
-          place = i .shown .place;
+          row = i .shown .row;
           slot = s .window;
           side = s .side;
           of = i .shown .of;

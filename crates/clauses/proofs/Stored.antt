@@ -71,14 +71,14 @@ module _ (store : List ℕ) (x : Join) (i j : ℕ) where
 module _ {ns : List ℕ} {P : List Node → State → Type 0} (k : Key) (p : ℕ) (m : Memory)
     (named : (t : List Node) (s : State) → Table ns t → P t s → Named t k) (place : (t : List Node) (s : State) → Table ns t → P t s → slot t k ≡ p) where
   sims-stored-key : hasFirst (m .store) p ≡ true → Simulates ns P (λ t s. lookUp t k s) m m
-  sims-stored-key h = by (decLe (m .out .at) (length (m .log)))
+  sims-stored-key h = by (decLe (m .at) (length (m .log)))
     where
-      by : Dec (m .out .at ≤ length (m .log)) → Simulates ns P (λ t s. lookUp t k s) m m
+      by : Dec (m .at ≤ length (m .log)) → Simulates ns P (λ t s. lookUp t k s) m m
       by (yes e) = sims-there k p m e named place (λ z. true-false (rw z at h) refl)
       by (no e) = sims-full (look-up-grows k) (omega arith)
 
 module _ {ns : List ℕ} (s : Shown) (a : ℕ) (d : Direction) (m : Memory) where
-  sims-stored-side : sideStored (m .store) s a ≡ true
+  pub sims-stored-side : sideStored (m .store) s a ≡ true
       → Simulates ns (λ t u. SideIn t s a) (λ t u. each (lookUp t) (keyOf (sideDef t (s .side) a d)) u) m m
   sims-stored-side h = by (decLe (s .len) 1)
     where

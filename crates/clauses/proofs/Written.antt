@@ -4,8 +4,8 @@ use mathlib.Core.Bool.{Bool, not}
 use mathlib.Core.List.{List, [], _∷_, _++_, append-nil, flatMap}
 use Prim.Native.Nat.{ℕ, _+_, _≤_, _<_}
 use native.Mathlib.Omega.{arith}
-use lib.ListN.{length, length-append}
-use Rattle.sizes.specs.Sizes.{stepStop}
+use lib.ListN.{length, getD, length-append}
+use Rattle.sizes.specs.Sizes.{stepStop, marksAt, heldAt}
 use Rattle.memo.specs.Visit.{each}
 use Rattle.memo.proofs.Unrolled.{each-append}
 use Rattle.record.specs.Record.{Record, derivation, clause, numbers, steps, clauses}
@@ -21,13 +21,15 @@ use Rattle.cert.proofs.Serving.{clauses-append}
 use Rattle.derivation.specs.Operands.{operand, part, stepTokens, clauseNumbers, nextStep}
 use Rattle.derivation.specs.declared.SemDefinition.{SemDefinition}
 use Rattle.derivation.proofs.ClauseRecords.{clause-step}
-use Rattle.rows.specs.Rows.{Table}
+use Rattle.rows.specs.Rows.{Bounded, Table}
 use Rattle.rows.specs.declared.Join.{Join}
-use Rattle.define.specs.Store.{direction}
-use Rattle.define.specs.Represents.{Memory, Exact, Represents, exact, over, Simulates}
+use Rattle.define.specs.Store.{direction, slot, Counters, clauseCounted}
+use Rattle.define.specs.Represents.{Memory, memory, Stores, Consistent, Exact, Represents, exact, over, Simulates}
 use Rattle.define.specs.Lookups.{RealOf, SideIn}
-use Rattle.define.proofs.Defines.{few-steps, step-after}
+use Rattle.define.proofs.Counted.{counted-size, counted-row, counted-marks, counted-trail, counted-step, counted-clauses}
+use Rattle.define.proofs.Defines.{few-steps, few-marks, step-after}
 use Rattle.define.proofs.Simulates.{Grows, grown, sims-open, sims-then, sims-under, sims-same}
+use Rattle.define.proofs.Slots.{slot-inside}
 use Rattle.define.proofs.Written.{Took, fits, past, took}
 use Rattle.clauses.specs.Firsts.{FirstsOf, SideRead}
 use Rattle.clauses.specs.Joins.{ClauseIn, clauseOf}
@@ -52,68 +54,86 @@ abbrev pub clauseRecords : List Node → Clause → State → List Record
 clauseRecords t k s = derivation (clauseTokens (stepIn (s .stored)) t k) ∷ clause (s .next-step) (k .literals) ∷ []
 
 -- The memory after a clause: two records in the log, one step and one clause more.
-pub record Clausal (m n : Memory) (t : List Node) (k : Clause) (s : State) : Type 0 where
-  pub store : n .store ≡ m .store
-  pub log : Puts (buffer (m .log) (m .out .at)) (flatMap numbers (clauseRecords t k s)) (buffer (n .log) (n .out .at))
-  pub marks : n .out .marks ≡ m .out .marks
-  pub step : n .out .step ≡ nextStep (m .out .step)
-  pub clauses : n .out .clauses ≡ nextStep (m .out .clauses)
+module _ {c : ℕ} {t : List Node} {m : Memory} {s : State} (b : Bounded t) (x : Exact c t m s) (k : Clause) where
+  more-steps : steps (s .log ++ clauseRecords t k s) ≡ steps (s .log) + 1
+  unfolding steps
+  more-steps = steps-append (s .log) (clauseRecords t k s)
 
-module _ (c : ℕ) (t : List Node) (k : Clause) (s : State) where
-  exact-write : (m n : Memory) → Exact c t m s → Clausal m n t k s → Represents c t n (write t k s)
-  unfolding write steps clauses keys
-  exact-write m n x w = by (took (s .log) (clauseRecords t k s) (x .logged .size) (x .logged .is) (w .log))
+  more-clauses : length (clauses (s .log ++ clauseRecords t k s)) ≡ length (clauses (s .log)) + 1
+  unfolding clauses
+  more-clauses = rw (clauses-append (s .log) (clauseRecords t k s)) (length-append (clauses (s .log)) (clauses (clauseRecords t k s)))
+
+  counters-write : Counters (clauseCounted (m .store)) (write t k s)
+  unfolding write
+  counters-write =
+      let z = x .stores in
+      record {
+        step = counted-step (m .store) (omega (arith, z .room)) ∙ ap nextStep (z .counters .step) ∙ step-after (s .next-step) 1 (low-step x);
+        clauses = counted-clauses (m .store) (omega (arith, z .room)) ∙ ap nextStep (z .counters .clauses)
+            ∙ step-after (length (clauses (s .log))) 1 (low-clauses x) ∙ sym more-clauses;
+      }
+
+  stores-write : (log′ : List ℕ) (a : ℕ) → Stores t (memory (clauseCounted (m .store)) log′ a) (write t k s)
+  unfolding write
+  stores-write log′ a =
+      let z = x .stores in
+      let row = counted-row (m .store) in
+      let same = counted-marks (m .store) in
+      record {
+        room = omega (arith, z .room, counted-size (m .store));
+        firsts = record { is = λ j q. row (slot t j) (slot-inside b j q .0) ∙ z .firsts .is j q };
+        trail = record {
+          count = same ∙ z .trail .count;
+          is = rw same (counted-trail (m .store) (getD (m .store) marksAt 0) (few-marks x) ∙ z .trail .is);
+        };
+        counters = counters-write;
+        holds = record { is = λ i v there join low high. row (heldAt i v) (omega arith) ∙ z .holds .is i v there join low high };
+        blank = record { is = λ i h. row i (omega arith) ∙ z .blank .is i h };
+      }
+
+  consistent-write : Consistent t (write t k s)
+  unfolding write keys
+  consistent-write =
+      let y = x .consistent in
+      record {
+        one = omega (arith, y .one);
+        used = y .used;
+        entry = y .entry;
+        from-one = y .from-one;
+        from-few = λ j. omega (arith, y .from-few j);
+        few = omega (arith, y .few, more-steps);
+        few-clauses = omega (arith, y .few-clauses, more-steps, more-clauses);
+        few-stored = omega (arith, y .few-stored, length-bytes (s .log) (clauseRecords t k s));
+      }
+
+  exact-write : (log′ : List ℕ) (a : ℕ) → Puts (buffer (m .log) (m .at)) (flatMap numbers (clauseRecords t k s)) (buffer log′ a)
+      → Represents c t (memory (clauseCounted (m .store)) log′ a) (write t k s)
+  unfolding write
+  exact-write log′ a put = by (took (s .log) (clauseRecords t k s) (x .logged .size) (x .logged .is) put)
     where
-      size : length (n .log) ≡ c
-      size = w .log .onward .size ∙ x .logged .size
+      size : length log′ ≡ c
+      size = put .onward .size ∙ x .logged .size
 
-      more-steps : steps (s .log ++ clauseRecords t k s) ≡ steps (s .log) + 1
-      more-steps = steps-append (s .log) (clauseRecords t k s)
-
-      more-clauses : length (clauses (s .log ++ clauseRecords t k s)) ≡ length (clauses (s .log)) + 1
-      more-clauses = rw (clauses-append (s .log) (clauseRecords t k s)) (length-append (clauses (s .log)) (clauses (clauseRecords t k s)))
-
-      by : Took c (s .log) (clauseRecords t k s) (buffer (n .log) (n .out .at)) → Represents c t n (write t k s)
-      by (past h more) = over (record { size = size; past = h; room = rw (w .store) (x .stores .room); more = more })
-      by (fits e) =
-          let y = x .consistent in
-          exact (record {
-            small = x .small;
-            logged = record {
-              size = size;
-              is = e;
-              step = w .step ∙ ap nextStep (x .logged .step) ∙ step-after (s .next-step) 1 (low-step x);
-              clauses = w .clauses ∙ ap nextStep (x .logged .clauses) ∙ step-after (length (clauses (s .log))) 1 (low-clauses x) ∙ sym more-clauses;
-            };
-            stores = record {
-              room = rw (w .store) (x .stores .room);
-              firsts = rw (w .store) (x .stores .firsts);
-              trail = rw (w .store, w .marks) (x .stores .trail);
-              holds = rw (w .store) (x .stores .holds);
-              blank = rw (w .store) (x .stores .blank);
-            };
-            consistent = record {
-              one = omega (arith, y .one);
-              used = y .used;
-              entry = y .entry;
-              from-one = y .from-one;
-              from-few = λ j. omega (arith, y .from-few j);
-              few = omega (arith, y .few, more-steps);
-              few-clauses = omega (arith, y .few-clauses, more-steps, more-clauses);
-              few-stored = omega (arith, y .few-stored, length-bytes (s .log) (clauseRecords t k s));
-            };
-          })
+      by : Took c (s .log) (clauseRecords t k s) (buffer log′ a) → Represents c t (memory (clauseCounted (m .store)) log′ a) (write t k s)
+      by (past h more) = over (record { size = size; past = h; room = omega (arith, x .stores .room, counted-size (m .store)); more = more })
+      by (fits e) = exact (record {
+        small = x .small;
+        logged = record { size = size; is = e };
+        stores = stores-write log′ a;
+        consistent = consistent-write;
+      })
 
 -- A clause is written, or skipped where the log is too short.
 pub write-grows : (k : List Node → Clause) → Grows (λ t s. write t (k t) s)
 unfolding write
 write-grows k t s = grown s (write t (k t) s) (clauseRecords t (k t) s) refl
 
-pub sims-write : {ns : List ℕ} {P : List Node → State → Type 0} {m n : Memory} (k : List Node → Clause) → m .out .at ≤ length (m .log)
-    → Onward (buffer (m .log) (m .out .at)) (buffer (n .log) (n .out .at))
-    → ((c : ℕ) (t : List Node) (s : State) → Table ns t → P t s → Exact c t m s → Clausal m n t (k t) s)
-    → Simulates ns P (λ t s. write t (k t) s) m n
-sims-write {m = m} {n = n} k h on w = sims-open h on (λ c t s l p x. exact-write c t (k t) s m n x (w c t s l p x))
+pub sims-write : {ns : List ℕ} {P : List Node → State → Type 0} {m : Memory} {log′ : List ℕ} {a : ℕ} (k : List Node → Clause) → m .at ≤ length (m .log)
+    → Onward (buffer (m .log) (m .at)) (buffer log′ a)
+    → ((c : ℕ) (t : List Node) (s : State) → Table ns t → P t s → Exact c t m s
+    → Puts (buffer (m .log) (m .at)) (flatMap numbers (clauseRecords t (k t) s)) (buffer log′ a))
+    → Simulates ns P (λ t s. write t (k t) s) m (memory (clauseCounted (m .store)) log′ a)
+sims-write {log′ = log′} {a} k h on w = sims-open h on (λ c t s l p x. exact-write (l .bounded) x (k t) log′ a (w c t s l p x))
 
 -- ---- the records of a clause
 

@@ -6,7 +6,7 @@ use Prim.Native.Nat.{ℕ, _+_, _-_, _^_, _≤_, _<_}
 use lib.ListN.{length}
 use Rattle.sizes.specs.Sizes.{mostNodes, width, storeRow, storeAt}
 use Rattle.pb.specs.Sum.{neg}
-use Rattle.totdb.specs.Nodes.{Node, at, len, output}
+use Rattle.totdb.specs.Nodes.{Node, nodeAt, len, output}
 use Rattle.totdb.specs.declared.Side.{Side}
 use Rattle.cert.specs.Requests.{Clause, of-side, of-node, negPart, posPart}
 use Rattle.rows.specs.Rows.{JoinOf}
@@ -18,7 +18,7 @@ use Rattle.define.specs.Store.{direction}
 pub record JoinIn (t : List Node) (x : Join) (v : ℕ) : Type 0 where
   pub of : JoinOf t x
   pub above : 1 ≤ v
-  pub within : v ≤ len (at t (x .node))
+  pub within : v ≤ len (nodeAt t (x .node))
 
 -- ---- clauses. The flag is that of only-if clauses.
 
@@ -35,12 +35,12 @@ lastLiteral false o = o
 
 -- The clause of value v with the i-th value of the left side and the j-th of the right.
 unfoldable pub clauseOf : List Node → Join → ℕ → ℕ → ℕ → Bool → Clause
-unfolding at output direction clausePart lastLiteral
+unfolding nodeAt output direction clausePart lastLiteral
 clauseOf t x v i j b = record {
   left = of-side (x .left .side) i (direction (not b));
   right = of-side (x .right .side) j (direction (not b));
   this = of-node (x .node) v (direction b);
-  literals = clausePart b t (x .left .side) i ++ clausePart b t (x .right .side) j ++ (lastLiteral b (output (at t (x .node)) v) ∷ []);
+  literals = clausePart b t (x .left .side) i ++ clausePart b t (x .right .side) j ++ (lastLiteral b (output (nodeAt t (x .node)) v) ∷ []);
 }
 
 -- The values that a clause has of a side of length p: in if clauses from 0, in only-if clauses from 1 to one above the length.

@@ -1,5 +1,4 @@
 // A clause of a join, with the definitions that it looks up.
-use define::Out;
 use derivation::Clause;
 use derivation::Part;
 use derivation::SemDefinition;
@@ -12,14 +11,14 @@ ghost use Prim.Native.Nat.{ℕ, _≤_, _<_, _+_, _-_, _*_, _^_};
 ghost use lib.ListN.{length, getD};
 ghost use Rattle.sizes.specs.Sizes.{mostNodes, width, storeRow, storeAt};
 ghost use Rattle.memo.specs.Visit.{each};
-ghost use Rattle.totdb.specs.Nodes.{Node, at, output};
-ghost use Rattle.cert.specs.Definitions.{sideDef, Key, oneDef, real};
-ghost use Rattle.cert.specs.Requests.{looksOf};
+ghost use Rattle.totdb.specs.Nodes.{Node, nodeAt, output};
+ghost use Rattle.cert.specs.Definitions.{Direction, sideDef, Key, oneDef, real};
+ghost use Rattle.cert.specs.Requests.{keyOf, looksOf};
 ghost use Rattle.cert.specs.State.{lookUp, writeClause, Stored, stepIn, write};
 ghost use Rattle.derivation.specs.Operands.{operand};
 ghost use Rattle.derivation.specs.declared.SemDefinition.the-variants.{Step};
 ghost use Rattle.rows.specs.Rows.{Bounded};
-ghost use Rattle.define.specs.Store.{direction};
+ghost use Rattle.define.specs.Store.{direction, clauseCounted};
 ghost use Rattle.define.specs.Represents.{memory, Represented, Simulates};
 ghost use Rattle.define.specs.Lookups.{SideIn, RealOf};
 ghost use Rattle.clauses.specs.Firsts.{realStep, windowStep, SideRead, hasFirst, sideStored, sidesStored};
@@ -119,30 +118,30 @@ fn part(s: Shown, a: usize, only_if: bool) -> Part
 pub fn own_literal(x: Join, value: usize, only_if: bool) -> u32
     requires { ⌜ (x .first ≤ 2 ^ 30) × (1 ≤ value) × (value ≤ width) ⌝ }
     requires { ⌜ ((t : List Node) × JoinIn t x value) ⌝ }
-    ensures { λ r. ⌜ ((t : List Node) → JoinIn t x value → r ≡ lastLiteral «only_if» (output (at t (x .node)) value)) ⌝ }
+    ensures { λ r. ⌜ ((t : List Node) → JoinIn t x value → r ≡ lastLiteral «only_if» (output (nodeAt t (x .node)) value)) ⌝ }
 {
     let o = x.first + 2 * (value as u32 - 1);
     if only_if { pb::neg(o) } else { o }
 }
 
-// A clause's step and the clause, once its definitions are looked up.
+// A clause's step and the clause, once its definitions are looked up. The step is still to be counted.
 fn put_clause(
     store: &[u32],
     log: &mut [u8],
-    o: Out,
+    at: usize,
     x: Join,
     value: usize,
     i: usize,
     j: usize,
     only_if: bool,
-) -> Out
-    requires { ⌜ ((ns : List ℕ) × Represented ns (λ t s. ClauseIn t x value i j «only_if») (memory (now store) (now log) o)) ⌝ }
+) -> usize
+    requires { ⌜ ((ns : List ℕ) × Represented ns (λ t s. ClauseIn t x value i j «only_if») (memory (now store) (now log) at)) ⌝ }
     ensures { λ r. ⌜ ((ns : List ℕ) → Simulates ns (λ t s. ClauseIn t x value i j «only_if»)
         (λ t s. write t (clauseOf t x value i j «only_if») s)
-        (memory (now (store .entry)) (now (log .entry)) o) (memory (now (store .entry)) (now (log .exit)) r)) ⌝ }
+        (memory (now (store .entry)) (now (log .entry)) at) (memory (clauseCounted (now (store .entry))) (now (log .exit)) r)) ⌝ }
 {
-    if log.len() < o.at {
-        return o;
+    if log.len() < at {
+        return at;
     }
     let l = x.left;
     let r = x.right;
@@ -151,27 +150,22 @@ fn put_clause(
     let right = side_definition(store, r, j, !only_if);
     let left_part = part(l, i, only_if);
     let right_part = part(r, j, only_if);
+    let step = store[sizes::STEP];
     let c = Clause {
-        step: o.step,
+        step: step,
         left: left_part,
         right: right_part,
         output: own_literal(x, value, only_if),
     };
-    let at = derivation::put_clause(log, o.at, this, left, right, c);
-    Out {
-        at: at,
-        marks: o.marks,
-        step: derivation::next_step(o.step),
-        clauses: derivation::next_step(o.clauses),
-    }
+    derivation::put_clause(log, at, this, left, right, c)
 }
 
-// Whether a definition is stored, by its place.
-pub fn has_first(store: &[u32], place: usize) -> bool
-    requires { ⌜ place < length (now store) ⌝ }
-    ensures { λ r. ⌜ r ≡ hasFirst (now (store .entry)) place ⌝ }
+// Whether a definition is stored, by its slot.
+pub fn has_first(store: &[u32], slot: usize) -> bool
+    requires { ⌜ slot < length (now store) ⌝ }
+    ensures { λ r. ⌜ r ≡ hasFirst (now (store .entry)) slot ⌝ }
 {
-    store[place] != 0
+    store[slot] != 0
 }
 
 // Whether what the a-th value of a side looks up is stored.
@@ -205,18 +199,38 @@ fn look_up_this(
     nodes: &[u32],
     store: &mut [u32],
     log: &mut [u8],
-    o: Out,
+    at: usize,
     node: usize,
     value: usize,
-) -> Out
-    requires { ⌜ Represented (now nodes) (λ t s. RealOf t node value) (memory (now store) (now log) o) ⌝ }
+) -> usize
+    requires { ⌜ Represented (now nodes) (λ t s. RealOf t node value) (memory (now store) (now log) at) ⌝ }
     ensures { λ r. ⌜ Simulates (now (nodes .entry)) (λ t s. RealOf t node value) (λ t s. lookUp t (real node value) s)
-        (memory (now (store .entry)) (now (log .entry)) o) (memory (now (store .exit)) (now (log .exit)) r) ⌝ }
+        (memory (now (store .entry)) (now (log .entry)) at) (memory (now (store .exit)) (now (log .exit)) r) ⌝ }
 {
     if has_first(store, define::store_at(node) + value) {
-        return o;
+        return at;
     }
-    define::look_up_real(nodes, store, log, o, node, value)
+    define::look_up_real(nodes, store, log, at, node, value)
+}
+
+// The same of the a-th value of a side.
+fn look_up_side(
+    nodes: &[u32],
+    store: &mut [u32],
+    log: &mut [u8],
+    at: usize,
+    s: Shown,
+    a: usize,
+) -> usize
+    requires { ⌜ Represented (now nodes) (λ t u. SideIn t s a) (memory (now store) (now log) at) ⌝ }
+    ensures { λ r. ⌜ ((d : Direction) → Simulates (now (nodes .entry)) (λ t u. SideIn t s a)
+        (λ t u. each (lookUp t) (keyOf (sideDef t (s .side) a d)) u)
+        (memory (now (store .entry)) (now (log .entry)) at) (memory (now (store .exit)) (now (log .exit)) r)) ⌝ }
+{
+    if is_side_stored(store, s, a) {
+        return at;
+    }
+    define::look_up_side(nodes, store, log, at, s, a)
 }
 
 // What a clause looks up: left, right, this.
@@ -224,20 +238,20 @@ fn look_up_each(
     nodes: &[u32],
     store: &mut [u32],
     log: &mut [u8],
-    o: Out,
+    at: usize,
     x: Join,
     value: usize,
     i: usize,
     j: usize,
-) -> Out
-    requires { ⌜ ((b : Bool) × Represented (now nodes) (λ t s. ClauseIn t x value i j b) (memory (now store) (now log) o)) ⌝ }
+) -> usize
+    requires { ⌜ ((b : Bool) × Represented (now nodes) (λ t s. ClauseIn t x value i j b) (memory (now store) (now log) at)) ⌝ }
     ensures { λ r. ⌜ ((b : Bool) → Simulates (now (nodes .entry)) (λ t s. ClauseIn t x value i j b)
         (λ t s. each (lookUp t) (looksOf t (clauseOf t x value i j b)) s)
-        (memory (now (store .entry)) (now (log .entry)) o) (memory (now (store .exit)) (now (log .exit)) r)) ⌝ }
+        (memory (now (store .entry)) (now (log .entry)) at) (memory (now (store .exit)) (now (log .exit)) r)) ⌝ }
 {
-    let a = define::look_up_side(nodes, store, log, o, x.left, i);
-    let b = define::look_up_side(nodes, store, log, a, x.right, j);
-    define::look_up_real(nodes, store, log, b, x.node, value)
+    let a = look_up_side(nodes, store, log, at, x.left, i);
+    let b = look_up_side(nodes, store, log, a, x.right, j);
+    look_up_this(nodes, store, log, b, x.node, value)
 }
 
 // What a clause looks up. Where that of the sides is stored, the test spares two calls.
@@ -245,21 +259,21 @@ fn look_up(
     nodes: &[u32],
     store: &mut [u32],
     log: &mut [u8],
-    o: Out,
+    at: usize,
     x: Join,
     value: usize,
     i: usize,
     j: usize,
-) -> Out
-    requires { ⌜ ((b : Bool) × Represented (now nodes) (λ t s. ClauseIn t x value i j b) (memory (now store) (now log) o)) ⌝ }
+) -> usize
+    requires { ⌜ ((b : Bool) × Represented (now nodes) (λ t s. ClauseIn t x value i j b) (memory (now store) (now log) at)) ⌝ }
     ensures { λ r. ⌜ ((b : Bool) → Simulates (now (nodes .entry)) (λ t s. ClauseIn t x value i j b)
         (λ t s. each (lookUp t) (looksOf t (clauseOf t x value i j b)) s)
-        (memory (now (store .entry)) (now (log .entry)) o) (memory (now (store .exit)) (now (log .exit)) r)) ⌝ }
+        (memory (now (store .entry)) (now (log .entry)) at) (memory (now (store .exit)) (now (log .exit)) r)) ⌝ }
 {
     if are_sides_stored(store, x, i, j) {
-        return look_up_this(nodes, store, log, o, x.node, value);
+        return look_up_this(nodes, store, log, at, x.node, value);
     }
-    look_up_each(nodes, store, log, o, x, value, i, j)
+    look_up_each(nodes, store, log, at, x, value, i, j)
 }
 
 // A clause, with what it looks up.
@@ -267,18 +281,20 @@ pub fn write_clause(
     nodes: &[u32],
     store: &mut [u32],
     log: &mut [u8],
-    o: Out,
+    at: usize,
     x: Join,
     value: usize,
     i: usize,
     j: usize,
     only_if: bool,
-) -> Out
-    requires { ⌜ Represented (now nodes) (λ t s. ClauseIn t x value i j «only_if») (memory (now store) (now log) o) ⌝ }
+) -> usize
+    requires { ⌜ Represented (now nodes) (λ t s. ClauseIn t x value i j «only_if») (memory (now store) (now log) at) ⌝ }
     ensures { λ r. ⌜ Simulates (now (nodes .entry)) (λ t s. ClauseIn t x value i j «only_if»)
         (λ t s. writeClause t (clauseOf t x value i j «only_if») s)
-        (memory (now (store .entry)) (now (log .entry)) o) (memory (now (store .exit)) (now (log .exit)) r) ⌝ }
+        (memory (now (store .entry)) (now (log .entry)) at) (memory (now (store .exit)) (now (log .exit)) r) ⌝ }
 {
-    let c = look_up(nodes, store, log, o, x, value, i, j);
-    put_clause(store, log, c, x, value, i, j, only_if)
+    let found = look_up(nodes, store, log, at, x, value, i, j);
+    let end = put_clause(store, log, found, x, value, i, j, only_if);
+    define::count_clause(store);
+    end
 }

@@ -1,13 +1,13 @@
--- How many steps the definition at a place has, by the row and the column of the place.
+-- How many steps the definition of a slot has, by the row and the column of the slot.
 use mathlib.Core.Path.{_≡_, refl, ap, _∙_}
 use mathlib.Core.List.{List, [], _∷_, map, flatMap}
 use Prim.Native.Nat.{ℕ, _+_, _-_, _*_, _/_, _%_, _≤_, _<_}
 use native.Mathlib.Omega.{arith}
 use lib.ListN.{length, getD}
-use Rattle.sizes.specs.Sizes.{mostNodes, width, row, rowAt, leftColumn, sideLenColumn, trail, storeRow, storeAt, leftWindowColumn, rightWindowColumn}
+use Rattle.sizes.specs.Sizes.{mostNodes, width, row, rowAt, leftColumn, sideLenColumn, storeRow, storeAt, storeStart, leftWindowColumn, rightWindowColumn}
 use Rattle.pb.specs.Sum.{neg}
 use Rattle.record.specs.Record.{Record, steps}
-use Rattle.totdb.specs.Nodes.{Node, at, range, outputs}
+use Rattle.totdb.specs.Nodes.{Node, nodeAt, range, outputs}
 use Rattle.totdb.specs.declared.Side.{Side}
 use Rattle.totdb.proofs.Listed.{length-range}
 use Rattle.cert.specs.Definitions.{Key, real, window-zero, window, keyRecords, realRecords, atLeastZero, windowPair, windowIf, windowOnlyIf}
@@ -39,23 +39,23 @@ module _ (t : List Node) (n o m : ℕ) where
   window-steps : 2 * m + 1 ≡ stepsOf t (window n o m)
   unfolding keyRecords
   window-steps =
-      let ls : List ℕ = map neg (outputs (at t n) o m) in
+      let ls : List ℕ = map neg (outputs (nodeAt t n) o m) in
       let one : steps (atLeastZero ls ∷ []) ≡ 1 = unfold steps atLeastZero in refl in
       omega (
         arith,
         one,
-        steps-append (flatMap {B = Record} (windowPair (λ j i. 0) n (at t n) o m) (range (o + 1) m)) (atLeastZero ls ∷ []),
-        pairs-steps (λ j i. 0) n (at t n) o m (range (o + 1) m),
+        steps-append (flatMap {B = Record} (windowPair (λ j i. 0) n (nodeAt t n) o m) (range (o + 1) m)) (atLeastZero ls ∷ []),
+        pairs-steps (λ j i. 0) n (nodeAt t n) o m (range (o + 1) m),
         length-range (o + 1) m,
       )
 
--- ---- the row and the column of a place
+-- ---- the row and the column of a slot
 
 abbrev pub nodeOf : ℕ → ℕ
-nodeOf p = (p - trail) / storeRow
+nodeOf p = (p - storeStart) / storeRow
 
 abbrev pub columnOf : ℕ → ℕ
-columnOf p = (p - trail) % storeRow
+columnOf p = (p - storeStart) % storeRow
 
 divided : (n c p : ℕ) → c < storeRow → p ≡ storeAt n + c → (nodeOf p ≡ n) × (columnOf p ≡ c)
 divided n c p h e = (omega arith, omega arith)
@@ -74,7 +74,7 @@ column (left-at n ls o l r h e) = record { node = n; right = 0; there = h; two =
 column (right-at n ls o l r h e) = record { node = n; right = 1; there = h; two = omega arith; row = omega arith; slot = omega arith }
 
 module _ {ns : List ℕ} {t : List Node} {k : Key} {p : ℕ} (s : SlotOf ns t k p) where
-  pub place-there : (trail ≤ p) × (nodeOf p < length t) × (nodeOf p < mostNodes)
+  pub place-there : (storeStart ≤ p) × (nodeOf p < length t) × (nodeOf p < mostNodes)
   place-there =
       let r = slot-row (s .table .bounded) k (s .used) in (
         omega (arith, s .is, r .above),
@@ -86,7 +86,7 @@ module _ {ns : List ℕ} {t : List Node} {k : Key} {p : ℕ} (s : SlotOf ns t k 
   pub place-row : rowAt (nodeOf p) + row ≤ length ns
   place-row = row-there (s .table) (nodeOf p) (place-there .1) .0
 
--- The parts of a place, by its key.
+-- The parts of a slot, by its key.
 module _ {t : List Node} where
   real-parts : {ns : List ℕ} {n v p : ℕ} → SlotOf ns t (real n v) p → (nodeOf p ≡ n) × (columnOf p ≡ v) × (v < leftWindowColumn)
   unfolding Used slot
@@ -97,7 +97,7 @@ module _ {t : List Node} where
 
   -- The sum of value 0 (d = 0), or the rest of the window (d = 1).
   window-parts : {n o m : ℕ} (p : ℕ) → Bounded t → (u : WindowOf t n o m) (d : ℕ) → d ≤ 1 → p ≡ windowAt t n o m + d
-      → (j : ℕ) × (columnOf p ≡ leftWindowColumn + 2 * j + d) × (j ≤ 1) × (u .place ≡ rowAt (nodeOf p) + (leftColumn + 5 * j))
+      → (j : ℕ) × (columnOf p ≡ leftWindowColumn + 2 * j + d) × (j ≤ 1) × (u .row ≡ rowAt (nodeOf p) + (leftColumn + 5 * j))
   window-parts p b u d h e =
       let c = column (u .of) in
       let q = divided (c .node) (leftWindowColumn + 2 * c .right + d) p (omega (arith, c .two)) (omega (arith, window-slot b u, c .slot)) in
@@ -108,7 +108,7 @@ module _ {t : List Node} where
 module _ {ns : List ℕ} {t : List Node} where
   -- A column before those of the windows.
   pub real-case : (k : Key) {p : ℕ} → SlotOf ns t k p → columnOf p < leftWindowColumn
-      → steps (realRecords (at t (nodeOf p)) (columnOf p)) ≡ stepsOf t k
+      → steps (realRecords (nodeAt t (nodeOf p)) (columnOf p)) ≡ stepsOf t k
   unfolding keyRecords Used slot
   real-case (real n v) s h = let q = real-parts s in rw (q .0, q .1)
   real-case (window-zero n o m) {p} s h = let q = window-parts p (s .table .bounded) (s .used) 0 (omega arith) (omega (arith, s .is)) in absurd (omega (arith, q .1))

@@ -10,7 +10,7 @@ use Rattle.cert.specs.State.{Stored, fromIn}
 use Rattle.rows.specs.Rows.{Table}
 use Rattle.define.specs.Store.{Used, slot, Firsts, Trail}
 
--- The place of a key over the nodes that the table has.
+-- The slot of a key over the nodes that the table has.
 pub record SlotOf (ns : List ℕ) (t : List Node) (k : Key) (p : ℕ) : Type 0 where
   pub table : Table ns t
   pub used : Used t k

@@ -10,14 +10,14 @@ ghost use Rattle.cert.specs.Definitions.{Key, keyRecords};
 ghost use Rattle.cert.specs.State.{Stored, storedSteps};
 ghost use Rattle.closing.specs.Closing.{MarkedKeys, SlotOf};
 
-// How many steps the definition at a place has.
-fn count_steps(nodes: &[u32], place: usize) -> u32
-    requires { ⌜ ((t : List Node) × (k : Key) × SlotOf (now nodes) t k place) ⌝ }
-    ensures { λ r. ⌜ ((t : List Node) (k : Key) → SlotOf (now (nodes .entry)) t k place → r ≡ steps (keyRecords (λ j i. 0) t k)) ⌝ }
+// How many steps the definition of a slot has.
+fn count_steps(nodes: &[u32], slot: usize) -> u32
+    requires { ⌜ ((t : List Node) × (k : Key) × SlotOf (now nodes) t k slot) ⌝ }
+    ensures { λ r. ⌜ ((t : List Node) (k : Key) → SlotOf (now (nodes .entry)) t k slot → r ≡ steps (keyRecords (λ j i. 0) t k)) ⌝ }
     ensures { λ r. ⌜ r ≤ 129 ⌝ }
 {
-    let node = (place - sizes::TRAIL) / sizes::STORE_ROW;
-    let column = (place - sizes::TRAIL) % sizes::STORE_ROW;
+    let node = (slot - sizes::STORE_START) / sizes::STORE_ROW;
+    let column = (slot - sizes::STORE_START) % sizes::STORE_ROW;
     let row = rows::row_at(node);
     if column < sizes::LEFT_WINDOW {
         return define::count_real(rows::number_at(nodes, row), column);
@@ -63,8 +63,8 @@ fn put_stored(nodes: &[u32], store: &[u32], log: &mut [u8], at: usize, marks: us
 {
     let mut end = at;
     for i in 0..marks {
-        let place = rows::number_at(store, i);
-        end = put_steps(log, end, store[place], count_steps(nodes, place));
+        let slot = rows::number_at(store, i);
+        end = put_steps(log, end, store[slot], count_steps(nodes, slot));
     }
     end
 }

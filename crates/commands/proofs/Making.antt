@@ -7,13 +7,12 @@ use native.Mathlib.Omega.{arith}
 use lib.ListN.{length, length-append}
 use Rattle.pb.specs.Sum.{variable}
 use Rattle.sizes.specs.Sizes.{mostLeaves}
-use Rattle.totdb.specs.Nodes.{Node, leaf, joined, at, leaves, len, known, leafCount, sideLen, sideLeaves}
+use Rattle.totdb.specs.Nodes.{Node, leaf, joined, nodeAt, leaves, len, known, leafCount, sideLen, sideLeaves}
 use Rattle.totdb.specs.declared.Side.{Side}
 use Rattle.cert.specs.State.{State, Head}
 use Rattle.cert.proofs.Tables.{at-last, length-snoc}
 use Rattle.rows.specs.Rows.{Table}
 use Rattle.define.specs.Represents.{memory}
-use Rattle.define.specs.declared.Out.{Out}
 use Rattle.nodes.specs.Added.{Leafable, Joinable}
 use Rattle.player.specs.Formed.{Formed}
 use Rattle.player.specs.Player.{firstNo, questions, act, make, accepted}
@@ -28,19 +27,21 @@ use Rattle.commands.specs.declared.Totals.{Totals}
 use Rattle.commands.proofs.CommandEnds.{fits}
 use Rattle.commands.proofs.NodeMore.{exact-make}
 
-module _ {h : Head} {c : ℕ} {ns store log : List ℕ} {z : Totals} {s : State} (st : Standing h c ns (memory store log (z .out)) z s) where
+module _ {h : Head} {c : ℕ} {ns store log : List ℕ} {z : Totals} {s : State} (st : Standing h c ns (memory store log (z .at)) z s) where
   -- A command that makes the node a.
   module _ (k : Command) (asked : firstNo (questions h (s .nodes) k) ≡ 0) (a : Node) (i : ℕ) (is : act k s ≡ make a i s)
       (room : Room ns store (z .nodes)) (ns′ : List ℕ) (table : Table ns′ (s .nodes ++ (a ∷ []))) (e : CommandEnd) (number : e .number ≡ 0)
-      (out : e .totals .out ≡ z .out) (nodes : e .totals .nodes ≡ length (s .nodes ++ (a ∷ [])))
+      (place : e .totals .at ≡ z .at) (step : e .totals .step ≡ z .step) (clauses : e .totals .clauses ≡ z .clauses) (nodes : e .totals .nodes ≡ length (s .nodes ++ (a ∷ [])))
       (leaves : e .totals .leaves ≡ leafCount (s .nodes ++ (a ∷ []))) (next : e .totals .variable ≡ s .next-variable + i) where
-    after : Standing h c ns′ (memory store log (z .out)) (e .totals) (make a i s)
+    after : Standing h c ns′ (memory store log (z .at)) (e .totals) (make a i s)
     unfolding make
     after = record {
       formed = subst (λ (u : State). Formed h u) is (formed-act h k s asked (st .formed));
       table = table;
       exact =
           exact-make (s .nodes) a (st .table .bounded) (table .bounded) i (omega (arith, room .store-row, st .nodes)) (st .formed .held) (st .exact);
+      step = step ∙ st .step;
+      clauses = clauses ∙ st .clauses;
       nodes = nodes;
       leaves = leaves;
       variable = next;
@@ -53,8 +54,8 @@ module _ {h : Head} {c : ℕ} {ns store log : List ℕ} {z : Totals} {s : State}
     makes =
         went (act k s)
         (play-goes h c k s asked (rw same-log (fits st))) number
-        (subst (λ (o : Out). Standing h c ns′ (memory store log o) (e .totals) (act k s)) (sym out)
-        (subst (λ (u : State). Standing h c ns′ (memory store log (z .out)) (e .totals) u) (sym is) after))
+        (subst (λ (p : ℕ). Standing h c ns′ (memory store log p) (e .totals) (act k s)) (sym place)
+        (subst (λ (u : State). Standing h c ns′ (memory store log (z .at)) (e .totals) u) (sym is) after))
 
   -- ---- a leaf
 
@@ -79,11 +80,11 @@ module _ {h : Head} {c : ℕ} {ns store log : List ℕ} {z : Totals} {s : State}
   }
 
   pub leaf-made : (l : ℕ) → firstNo (questions h (s .nodes) (Command.Leaf l)) ≡ 0 → known (s .nodes) l ≡ false
-      → Room ns store (z .nodes) → (ns′ : List ℕ) → Table ns′ (s .nodes ++ (leaf l ∷ [])) → (e : CommandEnd) → e .number ≡ 0 → e .totals .out ≡ z .out
-      → e .totals .nodes ≡ z .nodes + 1 → e .totals .leaves ≡ z .leaves + 1 → e .totals .variable ≡ z .variable
+      → Room ns store (z .nodes) → (ns′ : List ℕ) → Table ns′ (s .nodes ++ (leaf l ∷ [])) → (e : CommandEnd) → e .number ≡ 0 → e .totals .at ≡ z .at
+      → e .totals .step ≡ z .step → e .totals .clauses ≡ z .clauses → e .totals .nodes ≡ z .nodes + 1 → e .totals .leaves ≡ z .leaves + 1 → e .totals .variable ≡ z .variable
       → Played h c (Command.Leaf l) s ns′ store log e
-  leaf-made l asked new room ns′ table e a b p q r =
-      makes (Command.Leaf l) asked (leaf l) 0 (unfold act in rw (new, act)) room ns′ table e a b
+  leaf-made l asked new room ns′ table e a b d f p q r =
+      makes (Command.Leaf l) asked (leaf l) 0 (unfold act in rw (new, act)) room ns′ table e a b d f
       (omega (arith, p, st .nodes, length-snoc (s .nodes) (leaf l))) (omega (arith, q, st .leaves, leafCount-leaf (s .nodes) l))
       (omega (arith, r, st .variable))
 
@@ -91,16 +92,16 @@ module _ {h : Head} {c : ℕ} {ns store log : List ℕ} {z : Totals} {s : State}
 
   pub join-made : (l r : Side) → firstNo (questions h (s .nodes) (Command.Join l r)) ≡ 0 → Room ns store (z .nodes)
       → (ns′ : List ℕ) → Table ns′ (s .nodes ++ (joined (s .nodes) (z .variable) l r ∷ []))
-      → (e : CommandEnd) → e .number ≡ 0 → e .totals .out ≡ z .out → e .totals .nodes ≡ z .nodes + 1 → e .totals .leaves ≡ z .leaves
+      → (e : CommandEnd) → e .number ≡ 0 → e .totals .at ≡ z .at → e .totals .step ≡ z .step → e .totals .clauses ≡ z .clauses → e .totals .nodes ≡ z .nodes + 1 → e .totals .leaves ≡ z .leaves
       → e .totals .variable ≡ z .variable + len (joined (s .nodes) (z .variable) l r)
       → Played h c (Command.Join l r) s ns′ store log e
-  join-made l r asked room ns′ table e a b p q v =
+  join-made l r asked room ns′ table e a b d f p q v =
       let x : Node = joined (s .nodes) (z .variable) l r in
       let same : leafCount (s .nodes ++ (joined (s .nodes) (z .variable) l r ∷ [])) ≡ leafCount (s .nodes) =
       unfold joined in leafCount-join (s .nodes) (sideLeaves (s .nodes) l ++ sideLeaves (s .nodes) r) (z .variable) l r in
       let is : act (Command.Join l r) s ≡ make x (len x) s =
       unfold act in ap (λ (o : ℕ). make (joined (s .nodes) o l r) (len (joined (s .nodes) o l r)) s) (sym (st .variable)) in
-      makes (Command.Join l r) asked x (len x) is room ns′ table e a b
+      makes (Command.Join l r) asked x (len x) is room ns′ table e a b d f
       (omega (arith, p, st .nodes, length-snoc (s .nodes) x))
       (omega (arith, q, st .leaves, same))
       (omega (arith, v, st .variable))
@@ -119,8 +120,8 @@ module _ {h : Head} {c : ℕ} {ns store log : List ℕ} {z : Totals} {s : State}
         let t = treed-act h (Command.Join l r) s asked (st .formed .sound) (st .formed .treed) in
         let x : Node = joined (s .nodes) (s .next-variable) l r in
         let e : act (Command.Join l r) s .nodes ≡ s .nodes ++ (joined (s .nodes) (s .next-variable) l r ∷ []) = unfold act make in refl in
-        let k : len (at (s .nodes ++ (x ∷ [])) (length (s .nodes))) ≤ 64 =
-        subst (λ (y : List Node). (n : ℕ) → n < length y → len (at y n) ≤ 64) e (t .each) (length (s .nodes)) (omega (arith, length-snoc (s .nodes) x)) in
+        let k : len (nodeAt (s .nodes ++ (x ∷ [])) (length (s .nodes))) ≤ 64 =
+        subst (λ (y : List Node). (n : ℕ) → n < length y → len (nodeAt y n) ≤ 64) e (t .each) (length (s .nodes)) (omega (arith, length-snoc (s .nodes) x)) in
         let j : len x ≤ 64 = subst (λ (y : Node). len y ≤ 64) (at-last (s .nodes) x) k in
         omega (arith, long (s .next-variable))
 

@@ -7,7 +7,7 @@ use native.Mathlib.Omega.{arith}
 use lib.ListN.{length, getD}
 use Rattle.sizes.specs.Sizes.{storeAt, heldAt}
 use Rattle.memo.proofs.Lists.{map-agree}
-use Rattle.totdb.specs.Nodes.{Node, leaf, join, at}
+use Rattle.totdb.specs.Nodes.{Node, leaf, join, nodeAt}
 use Rattle.totdb.specs.declared.Side.{Side}
 use Rattle.cert.specs.Definitions.{Key, real, window-zero, window, Direction, if, only-if}
 use Rattle.cert.specs.Requests.{request, Right}
@@ -31,7 +31,7 @@ module _ (t : List Node) (a : Node) (b : Bounded t) (b′ : Bounded (t ++ (a ∷
 
   window-more : {n f m : ℕ} → WindowOf t n f m → WindowOf (t ++ (a ∷ [])) n f m
   window-more w = record {
-    place = w .place;
+    row = w .row;
     slot = w .slot;
     side = w .side;
     of = side-more t a (w .of);
@@ -82,7 +82,7 @@ module _ (t : List Node) (a : Node) (b : Bounded t) (b′ : Bounded (t ++ (a ∷
   window-split : {n f m : ℕ} (w : WindowOf (t ++ (a ∷ [])) n f m) → WindowOf t n f m ⊎ (storeAt (length t) ≤ w .slot)
   window-split w =
       ⊎-elim (λ o. inl (record {
-        place = w .place;
+        row = w .row;
         slot = w .slot;
         side = w .side;
         of = o;
@@ -96,7 +96,7 @@ module _ (t : List Node) (a : Node) (b : Bounded t) (b′ : Bounded (t ++ (a ∷
   unfolding Used slot
   used-split (real n v) u =
       ⊎-elim (λ i. inl (i .0, rw (at-more t (a ∷ []) n (i .0)) (u .1), rw (at-more t (a ∷ []) n (i .0)) (u .2)))
-      (λ i. inr (new-key (real n v) (omega (arith, i .0)))) (old-or-new t a n (at (t ++ (a ∷ [])) n) (u .0) refl)
+      (λ i. inr (new-key (real n v) (omega (arith, i .0)))) (old-or-new t a n (nodeAt (t ++ (a ∷ [])) n) (u .0) refl)
   used-split (window-zero n f m) u =
       ⊎-elim (λ w. inl w) (λ h. inr (new-key (window-zero n f m) (omega (arith, window-slot b′ u)))) (window-split u)
   used-split (window n f m) u =
@@ -123,20 +123,20 @@ module _ (t : List Node) (a : Node) (b : Bounded t) (b′ : Bounded (t ++ (a ∷
     unfolding Right
     not-held v d j = omega (arith, held (request (length t) v d) j .0)
 
-    held-more : (n v : ℕ) → n < length (t ++ (a ∷ [])) → IsJoin (at (t ++ (a ∷ [])) n) → 1 ≤ v → v ≤ 64
+    held-more : (n v : ℕ) → n < length (t ++ (a ∷ [])) → IsJoin (nodeAt (t ++ (a ∷ [])) n) → 1 ≤ v → v ≤ 64
         → getD (m .store) (heldAt n v) 0 ≡ heldOf (s .held) n v
     unfolding heldOf
     held-more n v h j p q =
         ⊎-elim (λ y. x .stores .holds .is n v (y .0) (rw (at-more t (a ∷ []) n (y .0)) j) p q)
         (λ y. x .stores .blank .is (heldAt n v) (omega (arith, y .0))
         ∙ rw (y .0, flag-out (s .held) (request (length t) v if) (not-held v if), flag-out (s .held) (request (length t) v only-if) (not-held v only-if)))
-        (old-or-new t a n (at (t ++ (a ∷ [])) n) h refl)
+        (old-or-new t a n (nodeAt (t ++ (a ∷ [])) n) h refl)
 
     pub exact-make : Exact c (t ++ (a ∷ [])) m (make a i s)
     unfolding make
     exact-make = record {
       small = x .small;
-      logged = record { size = x .logged .size; is = x .logged .is; step = x .logged .step; clauses = x .logged .clauses };
+      logged = record { size = x .logged .size; is = x .logged .is };
       stores = record {
         room = rw (length-snoc t a) room;
         firsts = record { is = first-more };
@@ -144,6 +144,7 @@ module _ (t : List Node) (a : Node) (b : Bounded t) (b′ : Bounded (t ++ (a ∷
           count = x .stores .trail .count;
           is = x .stores .trail .is ∙ map-agree (s .stored) (λ e j. slot-same (e .key) (stored-used e j));
         };
+        counters = record { step = x .stores .counters .step; clauses = x .stores .counters .clauses };
         holds = record { is = held-more };
         blank = record { is = λ k h. x .stores .blank .is k (omega (arith, length-snoc t a)) };
       };

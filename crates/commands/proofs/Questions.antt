@@ -7,7 +7,7 @@ use native.Mathlib.Omega.{arith}
 use borrow.Author.Tests.{lt-ltb, le-ltb, le-leb, lt-leb, eq-eqb, ne-eqb}
 use lib.ListN.{length}
 use Rattle.pb.specs.Sum.{variable, neg}
-use Rattle.totdb.specs.Nodes.{Node, at, len, known, taken}
+use Rattle.totdb.specs.Nodes.{Node, nodeAt, len, known, taken}
 use Rattle.totdb.specs.declared.Side.{Side}
 use Rattle.cert.specs.State.{Head}
 use Rattle.player.specs.Player.{firstNo, fitsOver, questions, sideFits}
@@ -81,15 +81,15 @@ module _ (h : Head) (t : List Node) (n v d : ℕ) where
     pub request-zero : v ≡ 0 → firstNo (questions h t (Command.Request n v d)) ≡ 11
     request-zero p = rw p (value-zero h t n there d)
 
-    module _ (above : 1 ≤ v) (within : v ≤ len (at t n)) where
+    module _ (above : 1 ≤ v) (within : v ≤ len (nodeAt t n)) where
       pub request-none : d ≡ 0 → firstNo (questions h t (Command.Request n v d)) ≡ 12
       unfolding questions firstNo
-      request-none p = rw (lt-ltb n (length t) there, le-leb 1 v above, le-leb v (len (at t n)) within, lt-leb 1 d (omega arith))
+      request-none p = rw (lt-ltb n (length t) there, le-leb 1 v above, le-leb v (len (nodeAt t n)) within, lt-leb 1 d (omega arith))
 
       module _ (some : 1 ≤ d) where
         pub request-many : 3 < d → firstNo (questions h t (Command.Request n v d)) ≡ 12
         unfolding questions firstNo
-        request-many p = rw (lt-ltb n (length t) there, le-leb 1 v above, le-leb v (len (at t n)) within, le-leb 1 d some, lt-leb d 3 p)
+        request-many p = rw (lt-ltb n (length t) there, le-leb 1 v above, le-leb v (len (nodeAt t n)) within, le-leb 1 d some, lt-leb d 3 p)
 
 -- ---- one side
 
@@ -113,7 +113,7 @@ module _ (s : Side) (n : ℕ) where
 
 -- ---- a side of the nodes
 
-pub side-fits : (t : List Node) (s : Side) (n : ℕ) → n ≡ len (at t (s .node)) → (b : Bool) → fitsOver s n ≡ b → sideFits t s ≡ b
+pub side-fits : (t : List Node) (s : Side) (n : ℕ) → n ≡ len (nodeAt t (s .node)) → (b : Bool) → fitsOver s n ≡ b → sideFits t s ≡ b
 side-fits t s n p b e =
-    let over : sideFits t s ≡ fitsOver s (len (at t (s .node))) = unfold sideFits in refl in
+    let over : sideFits t s ≡ fitsOver s (len (nodeAt t (s .node))) = unfold sideFits in refl in
     over ∙ ap (fitsOver s) (sym p) ∙ e

@@ -1,5 +1,4 @@
 // The commands over the tables: questions 6 to 12 and 14, and what a command does that passes them.
-use define::Out;
 use player::Command;
 use totdb::Side;
 ghost use mathlib.Core.Path.{_≡_};
@@ -14,9 +13,12 @@ ghost use Rattle.player.specs.Player.{firstNo, fitsOver, questions};
 ghost use Rattle.player.specs.declared.Command.{Command};
 ghost use Rattle.commands.specs.Standing.{Standing, Room, Played, Ready, endOf};
 
-// How far the play is: the writing, the nodes, the leaves among them, and the next variable.
+// How far the play is: the place of the log's next byte, the next step, the clauses, the nodes, the leaves among them, and the
+// next variable.
 pub struct Totals {
-    pub out: Out,
+    pub at: usize,
+    pub step: u32,
+    pub clauses: u32,
     pub nodes: usize,
     pub leaves: usize,
     pub variable: u32,
@@ -32,7 +34,7 @@ pub struct CommandEnd {
 fn leaf(nodes: &mut [u32], t: Totals, first_variable: u32, literal: u32) -> CommandEnd
     requires { ⌜ ((store log : List ℕ) × (r : Ready (now nodes) store log t) × («first_variable» ≡ r .head .variable)) ⌝ }
     ensures { λ r. ⌜ ((h : Head) (c : ℕ) (store log : List ℕ) (s : State) → «first_variable» ≡ h .variable
-        → Standing h c (now (nodes .entry)) (memory store log (t .out)) t s → Room (now (nodes .entry)) store (t .nodes)
+        → Standing h c (now (nodes .entry)) (memory store log (t .at)) t s → Room (now (nodes .entry)) store (t .nodes)
         → Played h c (Command.Leaf literal) s (now (nodes .exit)) store log r) ⌝ }
 {
     if first_variable <= literal / 2 {
@@ -60,9 +62,10 @@ fn leaf(nodes: &mut [u32], t: Totals, first_variable: u32, literal: u32) -> Comm
         };
     }
     nodes::add_leaf(nodes, t.nodes, t.leaves, literal);
-    let out = t.out;
     let after = Totals {
-        out: out,
+        at: t.at,
+        step: t.step,
+        clauses: t.clauses,
         nodes: t.nodes + 1,
         leaves: t.leaves + 1,
         variable: t.variable,
@@ -124,7 +127,7 @@ fn ask_join(nodes: &[u32], count: usize, l: Side, r: Side) -> u32
 // Questions 8 to 10, then a new join.
 fn join(nodes: &mut [u32], t: Totals, l: Side, r: Side) -> CommandEnd
     requires { ⌜ ((store log : List ℕ) × Ready (now nodes) store log t) ⌝ }
-    ensures { λ e. ⌜ ((h : Head) (c : ℕ) (store log : List ℕ) (s : State) → Standing h c (now (nodes .entry)) (memory store log (t .out)) t s
+    ensures { λ e. ⌜ ((h : Head) (c : ℕ) (store log : List ℕ) (s : State) → Standing h c (now (nodes .entry)) (memory store log (t .at)) t s
         → Room (now (nodes .entry)) store (t .nodes) → Played h c (Command.Join l r) s (now (nodes .exit)) store log e) ⌝ }
 {
     let number = ask_join(nodes, t.nodes, l, r);
@@ -135,9 +138,10 @@ fn join(nodes: &mut [u32], t: Totals, l: Side, r: Side) -> CommandEnd
         };
     }
     let len = nodes::add_join(nodes, t.nodes, t.variable, l, r);
-    let out = t.out;
     let after = Totals {
-        out: out,
+        at: t.at,
+        step: t.step,
+        clauses: t.clauses,
         nodes: t.nodes + 1,
         leaves: t.leaves,
         variable: t.variable + len as u32,
@@ -148,18 +152,20 @@ fn join(nodes: &mut [u32], t: Totals, l: Side, r: Side) -> CommandEnd
     }
 }
 
-// Question 14, of a command that began with t and wrote up to o, into a log of so many bytes.
-fn end(length: usize, t: Totals, o: Out) -> CommandEnd
-    ensures { λ r. ⌜ r ≡ endOf length t o ⌝ }
+// Question 14, of a command that began with t and came to this place, step and number of clauses, in a log of so many bytes.
+fn end(length: usize, t: Totals, at: usize, step: u32, clauses: u32) -> CommandEnd
+    ensures { λ r. ⌜ r ≡ endOf length t at step clauses ⌝ }
 {
-    if length < o.at {
+    if length < at {
         return CommandEnd {
             number: 14,
             totals: t,
         };
     }
     let after = Totals {
-        out: o,
+        at: at,
+        step: step,
+        clauses: clauses,
         nodes: t.nodes,
         leaves: t.leaves,
         variable: t.variable,
@@ -206,7 +212,7 @@ fn request(
 ) -> CommandEnd
     requires { ⌜ Ready (now nodes) (now store) (now log) t ⌝ }
     ensures { λ r. ⌜ ((h : Head) (c : ℕ) (s : State)
-        → Standing h c (now (nodes .entry)) (memory (now (store .entry)) (now (log .entry)) (t .out)) t s
+        → Standing h c (now (nodes .entry)) (memory (now (store .entry)) (now (log .entry)) (t .at)) t s
         → Played h c (Command.Request node value direction) s (now (nodes .entry)) (now (store .exit)) (now (log .exit)) r) ⌝ }
 {
     let number = ask_request(nodes, t.nodes, node, value, direction);
@@ -216,27 +222,20 @@ fn request(
             totals: t,
         };
     }
-    let out = t.out;
-    let o = request::request(nodes, store, log, out, node, value, direction);
-    end(log.len(), t, o)
+    let at = request::request(nodes, store, log, t.at, node, value, direction);
+    end(log.len(), t, at, store[sizes::STEP], store[sizes::CLAUSES])
 }
 
 // The deletion of every stored definition's steps, ascending, and question 14.
 fn close(nodes: &[u32], store: &[u32], log: &mut [u8], t: Totals) -> CommandEnd
     requires { ⌜ Ready (now nodes) (now store) (now log) t ⌝ }
     ensures { λ r. ⌜ ((h : Head) (c : ℕ) (s : State)
-        → Standing h c (now (nodes .entry)) (memory (now (store .entry)) (now (log .entry)) (t .out)) t s
+        → Standing h c (now (nodes .entry)) (memory (now (store .entry)) (now (log .entry)) (t .at)) t s
         → Played h c Command.Close s (now (nodes .entry)) (now (store .entry)) (now (log .exit)) r) ⌝ }
 {
-    let out = t.out;
-    let at = closing::put_deletion(nodes, store, log, out.at, out.marks);
-    let closed = Out {
-        at: at,
-        marks: out.marks,
-        step: out.step,
-        clauses: out.clauses,
-    };
-    end(log.len(), t, closed)
+    let marks = rows::number_at(store, sizes::MARKS);
+    let at = closing::put_deletion(nodes, store, log, t.at, marks);
+    end(log.len(), t, at, t.step, t.clauses)
 }
 
 // A command: refused at the first question that fails, or done. What it wrote in vain lies from the place
@@ -251,7 +250,7 @@ pub fn command(
 ) -> CommandEnd
     requires { ⌜ ((r : Ready (now nodes) (now store) (now log) t) × («first_variable» ≡ r .head .variable)) ⌝ }
     ensures { λ r. ⌜ ((h : Head) (c : ℕ) (s : State) → «first_variable» ≡ h .variable
-        → Standing h c (now (nodes .entry)) (memory (now (store .entry)) (now (log .entry)) (t .out)) t s
+        → Standing h c (now (nodes .entry)) (memory (now (store .entry)) (now (log .entry)) (t .at)) t s
         → Played h c k s (now (nodes .exit)) (now (store .exit)) (now (log .exit)) r) ⌝ }
 {
     match k {

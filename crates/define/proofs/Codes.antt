@@ -5,13 +5,13 @@ use mathlib.Core.List.{List, [], _∷_, _++_, map, flatMap, map-append}
 use Prim.Native.Nat.{ℕ, _+_, _-_, _*_, _^_, _≤_, _<_}
 use native.Mathlib.Omega.{arith}
 use lib.ListN.{length, getD, take, drop, length-take}
-use Rattle.sizes.specs.Sizes.{mostNodes, width, row, rowAt, firstColumn, listColumn, firstAt, trail, storeRow, storeAt}
+use Rattle.sizes.specs.Sizes.{mostNodes, width, row, rowAt, firstColumn, listColumn, firstAt, storeStart, storeRow, storeAt}
 use Rattle.pb.specs.Sum.{neg, units, keep}
 use Rattle.memo.specs.Visit.{each}
 use Rattle.memo.proofs.Unrolled.{each-append}
 use Rattle.record.specs.Record.{Record, numbers, steps, sum}
 use Rattle.record.specs.Writing.{Buffer, Puts, signed}
-use Rattle.totdb.specs.Nodes.{Node, at, len, outputs, range}
+use Rattle.totdb.specs.Nodes.{Node, nodeAt, len, outputs, range}
 use Rattle.totdb.proofs.Listed.{length-range}
 use Rattle.cert.specs.Definitions.{Key, real, realRecords, window-zero, window, keyRecords, atLeastZero, windowIf, windowOnlyIf, windowReals}
 use Rattle.cert.specs.State.{State, lookUp}
@@ -56,24 +56,24 @@ module _ (ns : List ℕ) (n v : ℕ) {r k : ℕ} (re : r ≡ rowAt n) (ke : k �
   row-length = rw re at ke
 
   pub real-node : (t : List Node) → Table ns t → RealOf t n v
-      → NodeOf (take (r + listColumn + k - (r + listColumn)) (drop (r + listColumn) ns)) (getD ns (r + firstColumn) 0) (at t n)
+      → NodeOf (take (r + listColumn + k - (r + listColumn)) (drop (r + listColumn) ns)) (getD ns (r + firstColumn) 0) (nodeAt t n)
   real-node t l x =
-      let q : rowAt n + listColumn + k - (rowAt n + listColumn) ≡ len (at t n) = omega (arith, row-length, len-is l n (x .there)) in
+      let q : rowAt n + listColumn + k - (rowAt n + listColumn) ≡ len (nodeAt t n) = omega (arith, row-length, len-is l n (x .there)) in
       record {
         leaf-list = rw (re, q) (sym (list-is l n (x .there)));
-        outputs = λ i a b. rw (re, first-is l n (x .there)) (from-first (at t n) i a b);
+        outputs = λ i a b. rw (re, first-is l n (x .there)) (from-first (nodeAt t n) i a b);
       }
 
   pub real-writes : {b d : Buffer}
       → ((x : Node) → NodeOf (take (r + listColumn + k - (r + listColumn)) (drop (r + listColumn) ns)) (getD ns (r + firstColumn) 0) x → Puts b (flatMap numbers (realRecords x v)) d)
       → (t : List Node) (f : Key → ℕ → ℕ) → Table ns t → RealOf t n v → Puts b (flatMap numbers (keyRecords f t (real n v))) d
   unfolding keyRecords
-  real-writes w t f l x = w (at t n) (real-node t l x)
+  real-writes w t f l x = w (nodeAt t n) (real-node t l x)
 
   pub real-count : {i : ℕ} → ((x : Node) → len x ≡ k → i ≡ steps (realRecords x v))
       → (t : List Node) (f : Key → ℕ → ℕ) → Table ns t → RealOf t n v → i ≡ steps (keyRecords f t (real n v))
   unfolding keyRecords
-  real-count w t f l x = w (at t n) (sym (row-length ∙ len-is l n (x .there)))
+  real-count w t f l x = w (nodeAt t n) (sym (row-length ∙ len-is l n (x .there)))
 
 pub part-short : (a k : ℕ) (l : List ℕ) → k ≤ width → length (take (a + k - a) (drop a l)) ≤ width
 part-short a k l h = rw (length-take (a + k - a) (drop a l)) (omega arith)
@@ -81,7 +81,7 @@ part-short a k l h = rw (length-take (a + k - a) (drop a l)) (omega arith)
 -- ---- the sum of value 0 of a window
 
 pub record SlotBounds (store : List ℕ) (p : ℕ) : Type 0 where
-  pub above : trail ≤ p
+  pub above : storeStart ≤ p
   pub inside : p < length store
   pub small : p < 4294967296
 
@@ -98,7 +98,7 @@ pub zero-writes : {os : List ℕ} {p n f m : ℕ} {b d : Buffer}
     → Puts b (numbers (sum 0 (units (signed false os) ++ keep 0 0 []) 0)) d
     → (t : List Node) (g : Key → ℕ → ℕ) → WindowIn t os p n f m → Puts b (flatMap numbers (keyRecords g t (window-zero n f m))) d
 unfolding keyRecords signed
-zero-writes {n = n} {f = f} {m = m} w t g u = rw (← at-least-zero (outputs (at t n) f m), ← u .list) w
+zero-writes {n = n} {f = f} {m = m} w t g u = rw (← at-least-zero (outputs (nodeAt t n) f m), ← u .list) w
 
 pub zero-count : (n f m : ℕ) (t : List Node) (g : Key → ℕ → ℕ) → 1 ≡ steps (keyRecords g t (window-zero n f m))
 unfolding keyRecords steps atLeastZero
@@ -115,9 +115,9 @@ windows-steps f n x o m (v ∷ vs) = omega (arith, windows-steps f n x o m vs)
 pub window-count : (n f m : ℕ) (t : List Node) (g : Key → ℕ → ℕ) → 2 * m + 1 ≡ steps (keyRecords g t (window n f m))
 unfolding keyRecords
 window-count n f m t g =
-    simp steps-append (omega (arith, windows-steps g n (at t n) f m (range (f + 1) m), length-range (f + 1) m, one))
+    simp steps-append (omega (arith, windows-steps g n (nodeAt t n) f m (range (f + 1) m), length-range (f + 1) m, one))
   where
-    one : steps (atLeastZero (map neg (outputs (at t n) f m)) ∷ []) ≡ 1
+    one : steps (atLeastZero (map neg (outputs (nodeAt t n) f m)) ∷ []) ≡ 1
     one = unfold steps atLeastZero in refl
 
 -- ---- the real definitions of a window, one after the other

@@ -10,3 +10,4 @@ pub mod Codes
 pub mod Windows
 pub mod SideLooks
 pub mod HeldCases
+pub mod Counted

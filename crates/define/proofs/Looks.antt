@@ -19,11 +19,10 @@ use Rattle.cert.specs.State.{State, keys, stepIn, define, lookUp}
 use Rattle.cert.proofs.Fits.{KeyFits, key-falls}
 use Rattle.cert.proofs.Serving.{define-keys}
 use Rattle.rows.specs.Rows.{Table}
-use Rattle.define.specs.declared.Out.{Out}
-use Rattle.define.specs.Store.{Used, WindowOf, slot, Changed, changed, keyStored}
+use Rattle.define.specs.Store.{Used, WindowOf, slot, keyStored}
 use Rattle.define.specs.Represents.{Memory, memory, Exact, Represents, exact, Represented, Simulates}
 use Rattle.define.specs.Lookups.{New}
-use Rattle.define.proofs.Defines.{defined, stored-at}
+use Rattle.define.proofs.Defines.{defined}
 use Rattle.define.proofs.Entries.{from-missing}
 use Rattle.define.proofs.Simulates.{grown, Grows, exact-of, sims-open}
 use Rattle.define.proofs.Slots.{Named, window-named}
@@ -83,7 +82,7 @@ module _ {c : ℕ} {t : List Node} {m : Memory} {s : State} (ex : Exact c t m s)
 
 -- ---- the code of a lookup
 
-module _ {ns : List ℕ} {P : List Node → State → Type 0} (k : Key) (p : ℕ) (m : Memory) (h : m .out .at ≤ length (m .log))
+module _ {ns : List ℕ} {P : List Node → State → Type 0} (k : Key) (p : ℕ) (m : Memory) (h : m .at ≤ length (m .log))
     (named : (t : List Node) (s : State) → Table ns t → P t s → Named t k) (place : (t : List Node) (s : State) → Table ns t → P t s → slot t k ≡ p) where
   -- The key is stored.
   pub sims-there : (getD (m .store) p 0 ≡ 0 → ⊥) → Simulates ns P (λ t s. lookUp t k s) m m
@@ -92,17 +91,17 @@ module _ {ns : List ℕ} {P : List Node → State → Type 0} (k : Key) (p : ℕ
       rw (look-up-there t k (u .fits) s (there x k (u .used) (rw (← place t s l q) at f))) (exact x))
 
   -- Its records are written.
-  pub sims-define : {store′ log′ : List ℕ} {a : ℕ} {o : Out} (n : ℕ)
+  pub sims-define : {store′ log′ : List ℕ} {a : ℕ} (n : ℕ)
       → ((c : ℕ) (t : List Node) (s : State) → Table ns t → P t s → New k s → Exact c t m s
-      → Puts (buffer (m .log) (m .out .at)) (flatMap numbers (keyRecords (stepIn (s .stored)) t k)) (buffer log′ a))
-      → Onward (buffer (m .log) (m .out .at)) (buffer log′ a)
+      → Puts (buffer (m .log) (m .at)) (flatMap numbers (keyRecords (stepIn (s .stored)) t k)) (buffer log′ a))
+      → Onward (buffer (m .log) (m .at)) (buffer log′ a)
       → ((t : List Node) (s : State) (g : Key → ℕ → ℕ) → Table ns t → P t s → n ≡ steps (keyRecords g t k))
-      → changed store′ o ≡ keyStored p a n (changed (m .store) (m .out))
-      → Simulates ns (λ t s. P t s × New k s) (λ t s. define t k s) m (memory store′ log′ o)
-  sims-define {store′} {log′} {a} {o} n w on count is =
-      sims-open h (rw (ap (λ (x : Changed). x .out .at) is ∙ stored-at p a n (changed (m .store) (m .out))) on)
+      → store′ ≡ keyStored p n (m .store)
+      → Simulates ns (λ t s. P t s × New k s) (λ t s. define t k s) m (memory store′ log′ a)
+  sims-define n w on count is =
+      sims-open h on
       (λ c t s l q x.
-      defined (l .bounded) x k (named t s l (q .0) .used) (q .1 .new) (w c t s l (q .0) (q .1) x) n (count t s (stepIn (s .stored)) l (q .0))
+      defined (l .bounded) x k (named t s l (q .0) .used) (q .1 .new) n (w c t s l (q .0) (q .1) x) (count t s (stepIn (s .stored)) l (q .0))
       (rw (place t s l (q .0)) is))
 
   -- A key that pulls in nothing.
@@ -117,7 +116,7 @@ module _ {ns : List ℕ} {P : List Node → State → Type 0} (k : Key) (p : ℕ
       rw e (d .does c t s l (q, record { new = i }) (exact x)))
 
 -- The sum of value 0, the real definitions, then the rest.
-module _ {ns : List ℕ} {P : List Node → Type 0} (n f m slot′ : ℕ) {p a b : Memory} (h : p .out .at ≤ length (p .log))
+module _ {ns : List ℕ} {P : List Node → Type 0} (n f m slot′ : ℕ) {p a b : Memory} (h : p .at ≤ length (p .log))
     (z : getD (p .store) slot′ 0 ≡ 0) (shown : (t : List Node) → Table ns t → P t → WindowOf t n f m)
     (place : (t : List Node) → Table ns t → P t → slot t (window n f m) ≡ slot′)
     (first : Simulates ns (λ t s. P t) (λ t s. lookUp t (window-zero n f m) s) p a)

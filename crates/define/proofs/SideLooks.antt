@@ -7,7 +7,7 @@ use native.Mathlib.Omega.{arith}
 use Rattle.sizes.specs.Sizes.{width}
 use Rattle.memo.specs.Visit.{each}
 use Rattle.record.proofs.Writing.{stays}
-use Rattle.totdb.specs.Nodes.{Node, at, len, lengthOver, limited, plainOr, keyed, sideLen, sideLit}
+use Rattle.totdb.specs.Nodes.{Node, nodeAt, len, lengthOver, limited, plainOr, keyed, sideLen, sideLit}
 use Rattle.totdb.specs.declared.Side.{Side}
 use Rattle.totdb.proofs.Sides.{plain-zero, plain-keyed}
 use Rattle.cert.specs.Definitions.{Direction, real, window, sideDef}
@@ -45,7 +45,7 @@ pub plain-value : {t : List Node} {s : Shown} {a : ℕ} → Bounded t → 1 < s 
 unfolding sideLen
 plain-value {t} {s} {a} b long p i =
     let q = side-inside b (i .shown .of) in
-    let k = plain-length (s .side) p (len (at t (s .side .node))) in
+    let k = plain-length (s .side) p (len (nodeAt t (s .side .node))) in
     let e = i .shown .length in
     record {
       there = q .0;

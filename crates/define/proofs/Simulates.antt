@@ -1,5 +1,5 @@
 -- What functions do, composed: one act after the other, under a stronger premise, and by whether the log has room.
-use mathlib.Core.Path.{_≡_}
+use mathlib.Core.Path.{_≡_, refl}
 use mathlib.Core.List.{List, _++_}
 use Prim.Native.Nat.{ℕ, _+_, _≤_, _<_}
 use native.Mathlib.Omega.{arith}
@@ -12,7 +12,7 @@ use Rattle.record.proofs.Writing.{stays, onward-then, not-over}
 use Rattle.totdb.specs.Nodes.{Node}
 use Rattle.cert.specs.State.{State}
 use Rattle.rows.specs.Rows.{Table}
-use Rattle.define.specs.Represents.{Memory, Exact, Represents, exact, over, Represented, Simulates}
+use Rattle.define.specs.Represents.{Memory, memory, Exact, Represents, exact, over, Represented, Simulates}
 
 -- ---- a log that was too short stays too short
 
@@ -24,10 +24,10 @@ grown s u rs e = rw e (omega (arith, length-bytes (s .log) rs))
 
 -- ---- the two cases
 
-pub open-log : {c : ℕ} {t : List Node} {m : Memory} {s : State} → Exact c t m s → m .out .at ≤ length (m .log)
-open-log {m = m} x = not-over (m .log) (m .out .at) (x .logged .is)
+pub open-log : {c : ℕ} {t : List Node} {m : Memory} {s : State} → Exact c t m s → m .at ≤ length (m .log)
+open-log {m = m} x = not-over (m .log) (m .at) (x .logged .is)
 
-pub exact-of : {c : ℕ} {t : List Node} {m : Memory} {s : State} → m .out .at ≤ length (m .log) → Represents c t m s → Exact c t m s
+pub exact-of : {c : ℕ} {t : List Node} {m : Memory} {s : State} → m .at ≤ length (m .log) → Represents c t m s → Exact c t m s
 exact-of h (exact x) = x
 exact-of h (over x) = absurd (omega (arith, x .size, x .past))
 
@@ -49,17 +49,21 @@ module _ {ns : List ℕ} {P : List Node → State → Type 0} where
       → Simulates ns P f m n → Simulates ns P g m n
   sims-same {f} {g} {m} {n} h d = record { does = λ c t s l p x. rw (← h t s l p) (d .does c t s l p x); onward = d .onward }
 
-  -- Where the log was too short nothing is done.
-  pub sims-full : {f : List Node → State → State} {m : Memory} → Grows f → length (m .log) < m .out .at → Simulates ns P f m m
-  sims-full {f} {m} g h = record { does = λ c t s l p x. by c t s x; onward = stays }
+  -- Where the log was too short nothing is written, and the store is open.
+  pub sims-past : {f : List Node → State → State} {m : Memory} {store : List ℕ} → Grows f → length (m .log) < m .at → length store ≡ length (m .store)
+      → Simulates ns P f m (memory store (m .log) (m .at))
+  sims-past {f} {m} {store} g h e = record { does = λ c t s l p x. by c t s x; onward = stays }
     where
-      by : (c : ℕ) (t : List Node) (s : State) → Represents c t m s → Represents c t m (f t s)
+      by : (c : ℕ) (t : List Node) (s : State) → Represents c t m s → Represents c t (memory store (m .log) (m .at)) (f t s)
       by c t s (exact x) = absurd (omega (arith, open-log x))
-      by c t s (over x) = over (record { size = x .size; past = x .past; room = x .room; more = omega (arith, x .more, g t s) })
+      by c t s (over x) = over (record { size = x .size; past = x .past; room = omega (arith, e, x .room); more = omega (arith, x .more, g t s) })
+
+  pub sims-full : {f : List Node → State → State} {m : Memory} → Grows f → length (m .log) < m .at → Simulates ns P f m m
+  sims-full g h = sims-past g h refl
 
   -- Where it was not, the memory has the state.
-  pub sims-open : {f : List Node → State → State} {m n : Memory} → m .out .at ≤ length (m .log)
-      → Onward (buffer (m .log) (m .out .at)) (buffer (n .log) (n .out .at))
+  pub sims-open : {f : List Node → State → State} {m n : Memory} → m .at ≤ length (m .log)
+      → Onward (buffer (m .log) (m .at)) (buffer (n .log) (n .at))
       → ((c : ℕ) (t : List Node) (s : State) → Table ns t → P t s → Exact c t m s → Represents c t n (f t s)) → Simulates ns P f m n
   sims-open e on h = record { does = λ c t s l p x. h c t s l p (exact-of e x); onward = on }
 

@@ -4,8 +4,8 @@ use mathlib.Core.List.{List}
 use Prim.Native.Nat.{ℕ, _+_, _*_, _≤_, _<_}
 use native.Mathlib.Omega.{arith}
 use lib.ListN.{length}
-use Rattle.sizes.specs.Sizes.{trail, storeAt, leftWindowColumn, rightWindowColumn}
-use Rattle.totdb.specs.Nodes.{Node, at, len, sideLen}
+use Rattle.sizes.specs.Sizes.{storeStart, storeAt, leftWindowColumn, rightWindowColumn}
+use Rattle.totdb.specs.Nodes.{Node, nodeAt, len, sideLen}
 use Rattle.totdb.specs.declared.Side.{Side}
 use Rattle.cert.specs.Definitions.{Key, real, window-zero, window}
 use Rattle.cert.proofs.Fits.{KeyFits}
@@ -40,14 +40,14 @@ one-side {t} x y = go x y refl
     go : {p q v w : ℕ} {s u : Side} → SideAt t p v s → SideAt t q w u → v ≡ w → s ≡ u
     go (left-at n ls o l r h e) (left-at i ks q a b g f) z =
         let k : n ≡ i = omega arith in
-        ap (λ (x : Node). sideOf x) (sym e ∙ ap (at t) k ∙ f)
+        ap (λ (x : Node). sideOf x) (sym e ∙ ap (nodeAt t) k ∙ f)
       where
         sideOf : Node → Side
         sideOf (Rattle.totdb.specs.Nodes.leaf m) = l
         sideOf (Rattle.totdb.specs.Nodes.join m v c d) = c
     go (right-at n ls o l r h e) (right-at i ks q a b g f) z =
         let k : n ≡ i = omega arith in
-        ap (λ (x : Node). sideOf x) (sym e ∙ ap (at t) k ∙ f)
+        ap (λ (x : Node). sideOf x) (sym e ∙ ap (nodeAt t) k ∙ f)
       where
         sideOf : Node → Side
         sideOf (Rattle.totdb.specs.Nodes.leaf m) = r
@@ -56,7 +56,7 @@ one-side {t} x y = go x y refl
     go (right-at n ls o l r h e) (left-at i ks q a b g f) z = absurd (omega arith)
 
 module _ {t : List Node} (b : Bounded t) where
-  pub window-inside : {n f m : ℕ} → WindowOf t n f m → (n < length t) × (f + m ≤ len (at t n)) × (1 < m)
+  pub window-inside : {n f m : ℕ} → WindowOf t n f m → (n < length t) × (f + m ≤ len (nodeAt t n)) × (1 < m)
   window-inside w =
       let q = side-inside b (w .of) in
       rw (← w .node, ← w .offset, ← w .outputs) (q .0, q .1, rw (w .outputs) (w .long))
@@ -98,7 +98,7 @@ module _ {t : List Node} (b : Bounded t) where
       let p = window-place (u .of) in
       record { node = p .node; there = p .there; above = omega (arith, e, p .above); below = omega (arith, e, p .below) }
 
-  pub slot-inside : (k : Key) → Used t k → (trail ≤ slot t k) × (slot t k < storeAt (length t)) × (slot t k < 4294967296)
+  pub slot-inside : (k : Key) → Used t k → (storeStart ≤ slot t k) × (slot t k < storeAt (length t)) × (slot t k < 4294967296)
   slot-inside k u =
       let r = slot-row k u in
       let n = r .node in
@@ -108,7 +108,7 @@ module _ {t : List Node} (b : Bounded t) where
   -- Two windows with one place are one.
   same-window : {n f m i g l : ℕ} (w : WindowOf t n f m) (u : WindowOf t i g l) → w .slot ≡ u .slot → (n ≡ i) × (f ≡ g) × (m ≡ l)
   same-window w u e =
-      let s = one-side (w .of) (subst (λ (p : ℕ). SideAt t (u .place) p (u .side)) (sym e) (u .of)) in (
+      let s = one-side (w .of) (subst (λ (p : ℕ). SideAt t (u .row) p (u .side)) (sym e) (u .of)) in (
         sym (w .node) ∙ ap (λ (x : Side). x .node) s ∙ u .node,
         sym (w .offset) ∙ ap (λ (x : Side). x .offset) s ∙ u .offset,
         sym (w .outputs) ∙ ap (sideLen t) s ∙ u .outputs,

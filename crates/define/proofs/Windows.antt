@@ -6,8 +6,8 @@ use native.Mathlib.Omega.{arith}
 use lib.ListN.{length, getD, take, drop, replicate, List·getD-append}
 use lib.Seq.{getD-take, getD-drop, drop-append-le, take-append-le}
 use lib.ListN.{length-take, length-drop}
-use Rattle.sizes.specs.Sizes.{mostNodes, width, trail, storeRow, storeAt, leftWindowColumn}
-use Rattle.totdb.specs.Nodes.{Node, at, len, output, outputs, outputRow, fromFirst, range}
+use Rattle.sizes.specs.Sizes.{mostNodes, width, storeRow, storeStart, storeAt, leftWindowColumn}
+use Rattle.totdb.specs.Nodes.{Node, nodeAt, len, output, outputs, outputRow, fromFirst, range}
 use Rattle.totdb.proofs.Listed.{listed-length, row-length, part-range}
 use Rattle.cert.specs.Definitions.{real, window-zero, window}
 use Rattle.cert.specs.State.{State, fromIn, stepIn}
@@ -61,7 +61,7 @@ module _ (first f m : ℕ) where
 module _ {t : List Node} (b : Bounded t) (s : Shown) (w : SideWindow t s) where
   pub window-of : WindowOf t (s .side .node) (s .side .offset) (s .len)
   window-of = record {
-    place = w .shown .place;
+    row = w .shown .row;
     slot = s .window;
     side = s .side;
     of = w .shown .of;
@@ -71,7 +71,7 @@ module _ {t : List Node} (b : Bounded t) (s : Shown) (w : SideWindow t s) where
     long = w .long;
   }
 
-  pub window-fits : (s .side .node < length t) × (s .side .offset + s .len ≤ len (at t (s .side .node)))
+  pub window-fits : (s .side .node < length t) × (s .side .offset + s .len ≤ len (nodeAt t (s .side .node)))
   window-fits =
       let i = side-inside b (w .shown .of) in
       (i .0, rw (w .shown .length) (i .1))
@@ -87,16 +87,16 @@ module _ {t : List Node} (b : Bounded t) (s : Shown) (w : SideWindow t s) where
       rw (w .shown .first) (b .low (s .side .node) 1 (i .0) (omega arith) (omega (arith, i .1, w .long)))
 
   -- Its outputs are those of its node.
-  same-output : (v : ℕ) → 1 ≤ v → v ≤ s .side .offset + s .len → output (at t (s .side .node)) v ≡ fromFirst (s .first) v
+  same-output : (v : ℕ) → 1 ≤ v → v ≤ s .side .offset + s .len → output (nodeAt t (s .side .node)) v ≡ fromFirst (s .first) v
   same-output v a h =
-      from-first (at t (s .side .node)) v a (omega (arith, window-fits .1)) ∙ ap (λ (l : ℕ). fromFirst l v) (sym (w .shown .first))
+      from-first (nodeAt t (s .side .node)) v a (omega (arith, window-fits .1)) ∙ ap (λ (l : ℕ). fromFirst l v) (sym (w .shown .first))
 
   pub window-list : take (s .len) (drop (s .side .offset) (outputRow (s .first) (s .side .offset + s .len)))
-      ≡ outputs (at t (s .side .node)) (s .side .offset) (s .len)
+      ≡ outputs (nodeAt t (s .side .node)) (s .side .offset) (s .len)
   unfolding outputs
   window-list =
       outputs-at (s .first) (s .side .offset) (s .len)
-      ∙ sym (same-range (output (at t (s .side .node))) (fromFirst (s .first)) (s .side .offset + 1) (s .len)
+      ∙ sym (same-range (output (nodeAt t (s .side .node))) (fromFirst (s .first)) (s .side .offset + 1) (s .len)
       (λ v a h. same-output v (omega arith) (omega arith)))
 
 -- ---- bounds
@@ -107,7 +107,7 @@ pub record WindowBounds (store : List ℕ) (s : Shown) : Type 0 where
   pub values : s .side .offset + s .len ≤ width
   pub several : 1 < s .len
   pub low : s .first ≤ 2 ^ 30
-  pub above : trail ≤ s .window
+  pub above : storeStart ≤ s .window
   pub inside : s .window + 1 < length store
   pub small : s .window + 1 < 4294967296
 
@@ -135,7 +135,7 @@ window-bounds {t = t} {m = m} {s = s} b r w =
 
 pub handed : {c : ℕ} {t : List Node} {m : Memory} {u : State} {s : Shown} {os : List ℕ} {r : ℕ} → Bounded t → Exact c t m u → SideWindowWith t os s
     → r ≡ storeAt (s .side .node)
-    → Handed (take (r + leftWindowColumn - r) (drop r (m .store))) os (stepIn (u .stored)) (s .side .node) (at t (s .side .node)) (s .side .offset) (s .len)
+    → Handed (take (r + leftWindowColumn - r) (drop r (m .store))) os (stepIn (u .stored)) (s .side .node) (nodeAt t (s .side .node)) (s .side .offset) (s .len)
 unfolding stepIn Used slot
 handed {c} {t} {m} {u} {s} {os} {r} b ex w e =
     let n = s .side .node in
@@ -167,7 +167,7 @@ bounds-of {c} {t} {m} {u} {s} {os} {r} b ex w e =
       inside = rw (w .list) (omega (arith, row-length (s .first) (s .side .offset + s .len) (k .values), k .values));
       at-step = stepIn (u .stored);
       node = s .side .node;
-      of = at t (s .side .node);
+      of = nodeAt t (s .side .node);
       handed = handed b ex w e;
     }
 

@@ -4,7 +4,7 @@ use mathlib.Core.List.{List, List·Memᴰ}
 use Prim.Native.Nat.{ℕ, _+_, _≤_, _<_}
 use lib.ListN.{length}
 use Rattle.sizes.specs.Sizes.{width}
-use Rattle.totdb.specs.Nodes.{Node, at, leaves, len, output, outputs, outputRow, fromFirst}
+use Rattle.totdb.specs.Nodes.{Node, nodeAt, leaves, len, output, outputs, outputRow, fromFirst}
 use Rattle.cert.specs.Definitions.{Key}
 use Rattle.cert.specs.State.{State, keys}
 use Rattle.rows.specs.Rows.{ShownOf}
@@ -20,8 +20,8 @@ pub record NodeOf (l : List ℕ) (first : ℕ) (x : Node) : Type 0 where
 -- A value of a node of two values or more, or one beside them.
 pub record RealOf (t : List Node) (n v : ℕ) : Type 0 where
   pub there : n < length t
-  pub long : 1 < len (at t n)
-  pub value : v ≤ len (at t n) + 1
+  pub long : 1 < len (nodeAt t n)
+  pub value : v ≤ len (nodeAt t n) + 1
 
 pub record New (k : Key) (s : State) : Type 0 where
   pub new : ¬ List·Memᴰ k (keys s)
@@ -45,7 +45,7 @@ pub record SideWindowWith (t : List Node) (os : List ℕ) (s : Shown) : Type 0 w
 pub record WindowIn (t : List Node) (os : List ℕ) (p n f m : ℕ) : Type 0 where
   pub shown : WindowOf t n f m
   pub slot : windowAt t n f m ≡ p
-  pub list : os ≡ outputs (at t n) f m
+  pub list : os ≡ outputs (nodeAt t n) f m
 
 -- Outputs of which there are two or more.
 pub record Several (os : List ℕ) : Type 0 where

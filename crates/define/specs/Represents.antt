@@ -2,40 +2,38 @@
 use mathlib.Core.Path.{_≡_}
 use mathlib.Core.List.{List, List·Memᴰ}
 use Prim.Native.Nat.{ℕ, _+_, _*_, _≤_, _<_}
-use lib.ListN.{length}
-use Rattle.sizes.specs.Sizes.{mostBytes, mostHead, storeAt}
+use lib.ListN.{length, getD}
+use Rattle.sizes.specs.Sizes.{mostBytes, mostHead, marksAt, storeAt}
 use Rattle.record.specs.Record.{bytes, steps, clauses}
 use Rattle.record.specs.Writing.{buffer, content, written, Onward}
 use Rattle.totdb.specs.Nodes.{Node}
 use Rattle.cert.specs.Definitions.{Key}
 use Rattle.cert.specs.State.{State, Stored, keys, fromIn}
 use Rattle.rows.specs.Rows.{Table}
-use Rattle.define.specs.declared.Out.{Out}
-use Rattle.define.specs.Store.{Used, Firsts, Trail, HeldFlags, Blank}
+use Rattle.define.specs.Store.{Used, Firsts, Trail, Counters, HeldFlags, Blank}
 
--- All that a request changes.
+-- All that a request changes: the store, the log, and the place of the log's next byte, past its end where something did not fit.
 pub record Memory : Type 0 where
   pub store : List ℕ
   pub log : List ℕ
-  pub out : Out
+  pub at : ℕ
 
-abbrev pub memory : (store log : List ℕ) → Out → Memory
-memory k l o = record { store = k; log = l; out = o }
+abbrev pub memory : (store log : List ℕ) → ℕ → Memory
+memory k l a = record { store = k; log = l; at = a }
 
 -- ---- what the memory says
 
--- The log, of c bytes, has the records of the state; the counters are its own.
+-- The log, of c bytes, has the records of the state.
 pub record Logged (c : ℕ) (m : Memory) (s : State) : Type 0 where
   pub size : length (m .log) ≡ c
-  pub is : content (buffer (m .log) (m .out .at)) ≡ written (bytes (s .log))
-  pub step : m .out .step ≡ s .next-step
-  pub clauses : m .out .clauses ≡ length (Rattle.record.specs.Record.clauses (s .log))
+  pub is : content (buffer (m .log) (m .at)) ≡ written (bytes (s .log))
 
 -- What no region speaks of is left open: the trail from the marks on, places of keys that are not used, held directions of leaves.
 pub record Stores (t : List Node) (m : Memory) (s : State) : Type 0 where
   pub room : storeAt (length t) ≤ length (m .store)
   pub firsts : Firsts t (m .store) (s .stored)
-  pub trail : Trail t (m .store) (m .out .marks) (s .stored)
+  pub trail : Trail t (m .store) (getD (m .store) marksAt 0) (s .stored)
+  pub counters : Counters (m .store) s
   pub holds : HeldFlags t (m .store) (s .held)
   pub blank : Blank t (m .store)
 
@@ -63,7 +61,7 @@ pub record Exact (c : ℕ) (t : List Node) (m : Memory) (s : State) : Type 0 whe
 -- What was written did not fit, and what the state has does not fit either.
 pub record Over (c : ℕ) (t : List Node) (m : Memory) (s : State) : Type 0 where
   pub size : length (m .log) ≡ c
-  pub past : c < m .out .at
+  pub past : c < m .at
   pub room : storeAt (length t) ≤ length (m .store)
   pub more : c < length (bytes (s .log))
 
@@ -87,4 +85,4 @@ pub record Represented (ns : List ℕ) (P : List Node → State → Type 0) (m :
 -- What a function does: f to the state, over all nodes that the table has and of which P holds. Bytes that were written before stay.
 pub record Simulates (ns : List ℕ) (P : List Node → State → Type 0) (f : List Node → State → State) (m n : Memory) : Type 0 where
   pub does : (c : ℕ) (t : List Node) (s : State) → Table ns t → P t s → Represents c t m s → Represents c t n (f t s)
-  pub onward : Onward (buffer (m .log) (m .out .at)) (buffer (n .log) (n .out .at))
+  pub onward : Onward (buffer (m .log) (m .at)) (buffer (n .log) (n .at))

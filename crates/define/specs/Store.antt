@@ -1,4 +1,4 @@
--- The store: where the first steps of a definition and the held directions of a value stand, and what each region says of a state.
+-- The store: where the first steps of a definition, the held directions of a value and the counters stand, and what each region says of a state.
 use mathlib.Core.Path.{_≡_}
 use mathlib.Core.Bool.{Bool, true, false, cond}
 use mathlib.Core.Logic.{dite}
@@ -6,17 +6,17 @@ use mathlib.Core.List.{List, map}
 use Prim.Native.Nat.{ℕ, _+_, _*_, _≤_, _<_}
 use lib.Dec.{ltb}
 use lib.ListN.{length, getD, take, set}
-use Rattle.sizes.specs.Sizes.{width, trail, storeAt, heldAt}
+use Rattle.sizes.specs.Sizes.{width, trail, marksAt, stepAt, clausesAt, storeAt, heldAt}
 use Rattle.memo.specs.Visit.{decMemᴰ}
-use Rattle.totdb.specs.Nodes.{Node, leaf, join, at, len, sideLen}
+use Rattle.record.specs.Record.{clauses}
+use Rattle.totdb.specs.Nodes.{Node, leaf, join, nodeAt, len, sideLen}
 use Rattle.totdb.specs.declared.Side.{Side}
 use Rattle.cert.specs.Definitions.{Direction, if, only-if, Key, real, window-zero, window}
 use Rattle.cert.specs.Equal.{request-dec}
 use Rattle.cert.specs.Requests.{Request, request}
-use Rattle.cert.specs.State.{Stored, fromIn}
+use Rattle.cert.specs.State.{State, Stored, fromIn}
 use Rattle.rows.specs.Windows.{SideAt, windowAt}
-use Rattle.derivation.specs.Operands.{stepAfter}
-use Rattle.define.specs.declared.Out.{Out}
+use Rattle.derivation.specs.Operands.{stepAfter, nextStep}
 
 -- ---- first steps
 
@@ -29,10 +29,10 @@ slot t (window n f m) = windowAt t n f m + 1
 
 -- A window that a side shows.
 pub record WindowOf (t : List Node) (n f m : ℕ) : Type 0 where
-  pub place : ℕ
+  pub row : ℕ
   pub slot : ℕ
   pub side : Side
-  pub of : SideAt t place slot side
+  pub of : SideAt t row slot side
   pub node : side .node ≡ n
   pub offset : side .offset ≡ f
   pub outputs : sideLen t side ≡ m
@@ -40,7 +40,7 @@ pub record WindowOf (t : List Node) (n f m : ℕ) : Type 0 where
 
 -- A key that has a place: of a node with two values or more, or of a window that a side shows.
 unfoldable pub Used : List Node → Key → Type 0
-Used t (real n v) = (n < length t) × (1 < len (at t n)) × (v ≤ len (at t n) + 1)
+Used t (real n v) = (n < length t) × (1 < len (nodeAt t n)) × (v ≤ len (nodeAt t n) + 1)
 Used t (window-zero n f m) = WindowOf t n f m
 Used t (window n f m) = WindowOf t n f m
 
@@ -75,30 +75,36 @@ IsJoin (join ls o l r) = Unit {0}
 
 -- Of joins alone: a leaf writes nothing.
 pub record HeldFlags (t : List Node) (store : List ℕ) (held : List Request) : Type 0 where
-  pub is : (n v : ℕ) → n < length t → IsJoin (at t n) → 1 ≤ v → v ≤ width → getD store (heldAt n v) 0 ≡ heldOf held n v
+  pub is : (n v : ℕ) → n < length t → IsJoin (nodeAt t n) → 1 ≤ v → v ≤ width → getD store (heldAt n v) 0 ≡ heldOf held n v
+
+-- ---- the counters. How many definitions are stored is in `Trail`.
+
+pub record Counters (store : List ℕ) (s : State) : Type 0 where
+  pub step : getD store stepAt 0 ≡ s .next-step
+  pub clauses : getD store clausesAt 0 ≡ length (Rattle.record.specs.Record.clauses (s .log))
 
 -- ---- the rows of nodes yet to be made
 
 pub record Blank (t : List Node) (store : List ℕ) : Type 0 where
   pub is : (i : ℕ) → storeAt (length t) ≤ i → getD store i 0 ≡ 0
 
--- ---- a definition stored
+-- ---- a definition stored, a clause counted
 
--- All that it changes.
-pub record Changed : Type 0 where
-  pub store : List ℕ
-  pub out : Out
-
-abbrev pub changed : List ℕ → Out → Changed
-changed s o = record { store = s; out = o }
-
-abbrev pub counters : ℕ → ℕ → ℕ → ℕ → Out
-counters a m n l = record { at = a; marks = m; step = n; clauses = l }
-
--- The next n steps are those of the key at the place p, whose records end at the place a of the log. Where the trail is full there is no mark.
-unfoldable pub keyStored : ℕ → ℕ → ℕ → Changed → Changed
+-- The next n steps are those of the key at the place p.
+unfoldable pub stepsStored : ℕ → ℕ → List ℕ → List ℕ
 unfolding stepAfter
-keyStored p a n s =
-    cond (ltb (s .out .marks) trail)
-    (changed (set (set (s .store) p (s .out .step)) (s .out .marks) p) (counters a (s .out .marks + 1) (stepAfter (s .out .step) n) (s .out .clauses)))
-    (changed (set (s .store) p (s .out .step)) (counters a (s .out .marks) (stepAfter (s .out .step) n) (s .out .clauses)))
+stepsStored p n store = set (set store p (getD store stepAt 0)) stepAt (stepAfter (getD store stepAt 0) n)
+
+-- And p is marked. Where the trail is full there is no mark.
+unfoldable pub keyStored : ℕ → ℕ → List ℕ → List ℕ
+unfolding stepsStored
+keyStored p n store =
+    cond (ltb (getD store marksAt 0) trail)
+    (set (set (stepsStored p n store) (getD store marksAt 0) p) marksAt (getD store marksAt 0 + 1))
+    (stepsStored p n store)
+
+-- The next step is that of a clause, which is counted.
+unfoldable pub clauseCounted : List ℕ → List ℕ
+unfolding stepAfter
+clauseCounted store =
+    set (set store stepAt (nextStep (getD store stepAt 0))) clausesAt (nextStep (getD store clausesAt 0))

@@ -6,7 +6,7 @@ ghost use mathlib.Core.Path.{_≡_};
 ghost use mathlib.Core.List.{List, flatMap};
 ghost use Prim.Native.Nat.{ℕ, _+_, _^_, _≤_, _<_};
 ghost use lib.ListN.{length};
-ghost use Rattle.sizes.specs.Sizes.{mostBytes, width, trail, storeAt};
+ghost use Rattle.sizes.specs.Sizes.{mostBytes, width, clausesAt, storeStart, storeAt};
 ghost use Rattle.memo.specs.Visit.{each};
 ghost use Rattle.record.specs.Record.{numbers, steps};
 ghost use Rattle.record.specs.Writing.{buffer, Puts};
@@ -14,25 +14,16 @@ ghost use Rattle.totdb.specs.Nodes.{Node};
 ghost use Rattle.cert.specs.Definitions.{Direction, real, realRecords, window-zero, window, sideDef, windowReals};
 ghost use Rattle.cert.specs.Requests.{keyOf};
 ghost use Rattle.cert.specs.State.{lookUp, define};
-ghost use Rattle.define.specs.Store.{changed, keyStored, WindowOf};
+ghost use Rattle.define.specs.Store.{keyStored, clauseCounted, WindowOf};
 ghost use Rattle.define.specs.Represents.{memory, Represented, Simulates};
 ghost use Rattle.define.specs.Lookups.{NodeOf, RealOf, New, WindowIn, SideWindowWith, SideWindow, SideIn, Several};
-
-// The place of the next byte, past the log's end where something did not fit; how many definitions are stored; the next step;
-// and how many clauses are written.
-pub struct Out {
-    pub at: usize,
-    pub marks: usize,
-    pub step: u32,
-    pub clauses: u32,
-}
 
 // The place of a node's row in the store.
 pub fn store_at(node: usize) -> usize
     requires { ⌜ node < 4294967296 ⌝ }
     ensures { λ r. ⌜ r ≡ storeAt node ⌝ }
 {
-    sizes::TRAIL + sizes::STORE_ROW * node
+    sizes::STORE_START + sizes::STORE_ROW * node
 }
 
 // A sum with bound 0 and no witness, but for its list.
@@ -87,29 +78,31 @@ pub fn count_real(len: usize, value: usize) -> u32
     if len < value { 1 } else { 2 }
 }
 
-// The next `count` steps are those of the key at `slot`, whose records end at `at`.
-fn store_key(store: &mut [u32], o: Out, at: usize, slot: usize, count: u32) -> Out
-    requires { ⌜ (trail ≤ slot) × (slot < length (now store)) × (slot < 4294967296) × (count ≤ mostBytes) ⌝ }
-    ensures { λ r. ⌜ changed (now (store .exit)) r ≡ keyStored slot at count (changed (now (store .entry)) o) ⌝ }
+// The next `count` steps are those of the key at `slot`, which is marked.
+fn store_key(store: &mut [u32], slot: usize, count: u32)
+    requires { ⌜ (storeStart ≤ slot) × (slot < length (now store)) × (slot < 4294967296) × (count ≤ mostBytes) ⌝ }
+    ensures { λ _. ⌜ now (store .exit) ≡ keyStored slot count (now (store .entry)) ⌝ }
 {
-    store[slot] = o.step;
-    let k = o.marks;
-    let step = derivation::step_after(o.step, count);
-    if k < sizes::TRAIL {
-        store[k] = slot as u32;
-        return Out {
-            at: at,
-            marks: k + 1,
-            step: step,
-            clauses: o.clauses,
-        };
+    let step = store[sizes::STEP];
+    let k = rows::number_at(store, sizes::MARKS);
+    store[slot] = step;
+    store[sizes::STEP] = derivation::step_after(step, count);
+    if sizes::TRAIL <= k {
+        return;
     }
-    Out {
-        at: at,
-        marks: k,
-        step: step,
-        clauses: o.clauses,
-    }
+    store[k] = slot as u32;
+    store[sizes::MARKS] = k as u32 + 1;
+}
+
+// The next step is that of a clause, which is counted, as steps are, up to a number that no log reaches.
+pub fn count_clause(store: &mut [u32])
+    requires { ⌜ clausesAt < length (now store) ⌝ }
+    ensures { λ _. ⌜ now (store .exit) ≡ clauseCounted (now (store .entry)) ⌝ }
+{
+    let step = store[sizes::STEP];
+    let clauses = store[sizes::CLAUSES];
+    store[sizes::STEP] = derivation::next_step(step);
+    store[sizes::CLAUSES] = derivation::next_step(clauses);
 }
 
 // The real definition of a value of a node.
@@ -117,20 +110,20 @@ pub fn look_up_real(
     nodes: &[u32],
     store: &mut [u32],
     log: &mut [u8],
-    o: Out,
+    at: usize,
     node: usize,
     value: usize,
-) -> Out
-    requires { ⌜ Represented (now nodes) (λ t s. RealOf t node value) (memory (now store) (now log) o) ⌝ }
+) -> usize
+    requires { ⌜ Represented (now nodes) (λ t s. RealOf t node value) (memory (now store) (now log) at) ⌝ }
     ensures { λ r. ⌜ Simulates (now (nodes .entry)) (λ t s. RealOf t node value) (λ t s. lookUp t (real node value) s)
-        (memory (now (store .entry)) (now (log .entry)) o) (memory (now (store .exit)) (now (log .exit)) r) ⌝ }
+        (memory (now (store .entry)) (now (log .entry)) at) (memory (now (store .exit)) (now (log .exit)) r) ⌝ }
 {
-    if log.len() < o.at {
-        return o;
+    if log.len() < at {
+        return at;
     }
     let slot = store_at(node) + value;
     if store[slot] != 0 {
-        return o;
+        return at;
     }
     let row = rows::row_at(node);
     let len = rows::number_at(nodes, row);
@@ -138,29 +131,31 @@ pub fn look_up_real(
     let end = put_real(
         &nodes[list..list + len],
         log,
-        o.at,
+        at,
         value,
         nodes[row + sizes::FIRST],
     );
-    store_key(store, o, end, slot, count_real(len, value))
+    store_key(store, slot, count_real(len, value));
+    end
 }
 
 // The sum of value 0 of a window, by the list of its outputs.
-fn look_up_zero(outputs: &[u32], store: &mut [u32], log: &mut [u8], o: Out, slot: usize) -> Out
+fn look_up_zero(outputs: &[u32], store: &mut [u32], log: &mut [u8], at: usize, slot: usize) -> usize
     requires { ⌜ Several (now outputs) ⌝ }
-    requires { ⌜ ((ns : List ℕ) × (n f m : ℕ) × Represented ns (λ t s. WindowIn t (now outputs) slot n f m) (memory (now store) (now log) o)) ⌝ }
+    requires { ⌜ ((ns : List ℕ) × (n f m : ℕ) × Represented ns (λ t s. WindowIn t (now outputs) slot n f m) (memory (now store) (now log) at)) ⌝ }
     ensures { λ r. ⌜ ((ns : List ℕ) (n f m : ℕ) → Simulates ns (λ t s. WindowIn t (now (outputs .entry)) slot n f m)
         (λ t s. lookUp t (window-zero n f m) s)
-        (memory (now (store .entry)) (now (log .entry)) o) (memory (now (store .exit)) (now (log .exit)) r)) ⌝ }
+        (memory (now (store .entry)) (now (log .entry)) at) (memory (now (store .exit)) (now (log .exit)) r)) ⌝ }
 {
-    if log.len() < o.at {
-        return o;
+    if log.len() < at {
+        return at;
     }
     if store[slot] != 0 {
-        return o;
+        return at;
     }
-    let end = record::put_sum(log, o.at, outputs, false, bare());
-    store_key(store, o, end, slot, 1)
+    let end = record::put_sum(log, at, outputs, false, bare());
+    store_key(store, slot, 1);
+    end
 }
 
 // The real definitions of the outputs of a window, ascending.
@@ -168,17 +163,17 @@ fn look_up_reals(
     nodes: &[u32],
     store: &mut [u32],
     log: &mut [u8],
-    o: Out,
+    at: usize,
     node: usize,
     offset: usize,
     len: usize,
-) -> Out
-    requires { ⌜ Represented (now nodes) (λ t s. WindowOf t node offset len) (memory (now store) (now log) o) ⌝ }
+) -> usize
+    requires { ⌜ Represented (now nodes) (λ t s. WindowOf t node offset len) (memory (now store) (now log) at) ⌝ }
     ensures { λ r. ⌜ Simulates (now (nodes .entry)) (λ t s. WindowOf t node offset len)
         (λ t s. each (lookUp t) (windowReals node offset len) s)
-        (memory (now (store .entry)) (now (log .entry)) o) (memory (now (store .exit)) (now (log .exit)) r) ⌝ }
+        (memory (now (store .entry)) (now (log .entry)) at) (memory (now (store .exit)) (now (log .exit)) r) ⌝ }
 {
-    let mut p = o;
+    let mut p = at;
     for i in 0..len {
         p = look_up_real(nodes, store, log, p, node, offset + i + 1);
     }
@@ -186,16 +181,16 @@ fn look_up_reals(
 }
 
 // The rest of a window, by the output list of its node.
-fn define_window(outputs: &[u32], store: &mut [u32], log: &mut [u8], o: Out, s: Shown) -> Out
+fn define_window(outputs: &[u32], store: &mut [u32], log: &mut [u8], at: usize, s: Shown) -> usize
     requires { ⌜ ((ns : List ℕ) × Represented ns (λ t u. SideWindowWith t (now outputs) s × New (window (s .side .node) (s .side .offset) (s .len)) u)
-        (memory (now store) (now log) o)) ⌝ }
+        (memory (now store) (now log) at)) ⌝ }
     ensures { λ r. ⌜ ((ns : List ℕ) → Simulates ns
         (λ t u. SideWindowWith t (now (outputs .entry)) s × New (window (s .side .node) (s .side .offset) (s .len)) u)
         (λ t u. define t (window (s .side .node) (s .side .offset) (s .len)) u)
-        (memory (now (store .entry)) (now (log .entry)) o) (memory (now (store .exit)) (now (log .exit)) r)) ⌝ }
+        (memory (now (store .entry)) (now (log .entry)) at) (memory (now (store .exit)) (now (log .exit)) r)) ⌝ }
 {
-    if log.len() < o.at {
-        return o;
+    if log.len() < at {
+        return at;
     }
     let side = s.side;
     let len = s.len;
@@ -204,32 +199,33 @@ fn define_window(outputs: &[u32], store: &mut [u32], log: &mut [u8], o: Out, s: 
         &store[row..row + sizes::LEFT_WINDOW],
         outputs,
         log,
-        o.at,
+        at,
         side.offset,
         len,
     );
-    store_key(store, o, end, s.window + 1, 2 * len as u32 + 1)
+    store_key(store, s.window + 1, 2 * len as u32 + 1);
+    end
 }
 
 // The window of a side: the sum of value 0, the real definitions that are missing, then the rest.
-fn look_up_window(nodes: &[u32], store: &mut [u32], log: &mut [u8], o: Out, s: Shown) -> Out
-    requires { ⌜ Represented (now nodes) (λ t u. SideWindow t s) (memory (now store) (now log) o) ⌝ }
+fn look_up_window(nodes: &[u32], store: &mut [u32], log: &mut [u8], at: usize, s: Shown) -> usize
+    requires { ⌜ Represented (now nodes) (λ t u. SideWindow t s) (memory (now store) (now log) at) ⌝ }
     ensures { λ r. ⌜ Simulates (now (nodes .entry)) (λ t u. SideWindow t s)
         (λ t u. lookUp t (window (s .side .node) (s .side .offset) (s .len)) u)
-        (memory (now (store .entry)) (now (log .entry)) o) (memory (now (store .exit)) (now (log .exit)) r) ⌝ }
+        (memory (now (store .entry)) (now (log .entry)) at) (memory (now (store .exit)) (now (log .exit)) r) ⌝ }
 {
-    if log.len() < o.at {
-        return o;
+    if log.len() < at {
+        return at;
     }
     let slot = s.window;
     if store[slot + 1] != 0 {
-        return o;
+        return at;
     }
     let side = s.side;
     let from = side.offset;
     let to = from + s.len;
     let outputs = totdb::outputs(s.first, to);
-    let a = look_up_zero(&outputs[from..to], store, log, o, slot);
+    let a = look_up_zero(&outputs[from..to], store, log, at, slot);
     let b = look_up_reals(nodes, store, log, a, side.node, from, s.len);
     define_window(&outputs, store, log, b, s)
 }
@@ -239,21 +235,21 @@ pub fn look_up_side(
     nodes: &[u32],
     store: &mut [u32],
     log: &mut [u8],
-    o: Out,
+    at: usize,
     s: Shown,
     a: usize,
-) -> Out
-    requires { ⌜ Represented (now nodes) (λ t u. SideIn t s a) (memory (now store) (now log) o) ⌝ }
+) -> usize
+    requires { ⌜ Represented (now nodes) (λ t u. SideIn t s a) (memory (now store) (now log) at) ⌝ }
     ensures { λ r. ⌜ ((d : Direction) → Simulates (now (nodes .entry)) (λ t u. SideIn t s a)
         (λ t u. each (lookUp t) (keyOf (sideDef t (s .side) a d)) u)
-        (memory (now (store .entry)) (now (log .entry)) o) (memory (now (store .exit)) (now (log .exit)) r)) ⌝ }
+        (memory (now (store .entry)) (now (log .entry)) at) (memory (now (store .exit)) (now (log .exit)) r)) ⌝ }
 {
     if s.len <= 1 {
-        return o;
+        return at;
     }
     let side = s.side;
     if side.is_plain() {
-        return look_up_real(nodes, store, log, o, side.node, side.key(a));
+        return look_up_real(nodes, store, log, at, side.node, side.key(a));
     }
-    look_up_window(nodes, store, log, o, s)
+    look_up_window(nodes, store, log, at, s)
 }

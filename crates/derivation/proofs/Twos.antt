@@ -3,7 +3,7 @@ use mathlib.Core.Path.{_≡_}
 use mathlib.Core.Bool.{true}
 use Prim.Native.Nat.{ℕ}
 use borrow.Author.Tests.{leb-true, ltb-true}
-use lib.Dec.{leb, ltb}
+use lib.Dec.{leb}
 use Rattle.memo.proofs.Booleans.{and-true}
 use Rattle.derivation.specs.Operands.{Two, isTwo, Twos, areTwos}
 use Rattle.derivation.specs.declared.Whole.{Whole}

@@ -8,7 +8,7 @@ use lib.Dec.{eqb}
 use lib.ListN.{length, set, take, replicate, length-set, length-append, length-take, length-drop, length-replicate}
 use lib.Seq.{paste, length-paste, take-set-le, take-suc-set, take-append-seam, set-getD}
 use Rattle.sizes.specs.Sizes.{mostLeaves, width, row, rowAt, takenColumn, takenAt}
-use Rattle.totdb.specs.Nodes.{Node, leaf, join, at, len, leaves, output, sideLen, sideLeaves, joined, leafCount, isOver, taken}
+use Rattle.totdb.specs.Nodes.{Node, leaf, join, nodeAt, len, leaves, output, sideLen, sideLeaves, joined, leafCount, isOver, taken}
 use Rattle.totdb.specs.declared.Side.{Side}
 use Rattle.cert.specs.Sized.{Fit}
 use Rattle.cert.proofs.Rules.{sideLen-more}
@@ -178,7 +178,7 @@ module _ {ns : List ℕ} {t : List Node} {n v : ℕ} {l r : Side} (j : Joinable 
   row-join =
       let next : length t ≡ n = j .next in
       let here : n < length with-join = omega (arith, length-snoc t (join both v l r)) in
-      let is : at with-join n ≡ join both v l r = rw next at (at-last t (join both v l r)) in
+      let is : nodeAt with-join n ≡ join both v l r = rw next at (at-last t (join both v l r)) in
       record {
         length = sym (length-append (sideLeaves t l) (sideLeaves t r));
         first = omega arith;

@@ -7,7 +7,7 @@ use lib.ListN.{length, getD, take, drop, replicate, length-map, length-take, len
 use lib.Seq.{take-take, take-append-le, drop-append-le}
 use Rattle.sizes.specs.Sizes.{width, rowAt, firstColumn, listColumn, listAt}
 use Rattle.memo.proofs.Lists.{map-agree}
-use Rattle.totdb.specs.Nodes.{Node, at, len, leaves, output, outputs, fromFirst, range, outputRow, part, limited, plainOr, sideLen, sideLeaves, sideOutputs}
+use Rattle.totdb.specs.Nodes.{Node, nodeAt, len, leaves, output, outputs, fromFirst, range, outputRow, part, limited, plainOr, sideLen, sideLeaves, sideOutputs}
 use Rattle.totdb.specs.declared.Side.{Side}
 use Rattle.totdb.proofs.Listed.{length-range, part-range, listed-length, row-length}
 use Rattle.cert.proofs.Apart.{range-mem}
@@ -52,7 +52,7 @@ limit-within (suc k) m = omega arith
 
 pub side-count : (t : List Node) (s : Side) → length (sideLeaves t s) ≡ sideLen t s
 unfolding sideLeaves sideLen sideOutputs
-side-count t s = side-long (s .offset) (s .limit) (at t (s .node))
+side-count t s = side-long (s .offset) (s .limit) (nodeAt t (s .node))
 
 module _ {ns : List ℕ} {t : List Node} {s : Side} {k : ℕ} (d : Sided ns t s k) where
   pub count-is : k ≡ length (sideLeaves t s)
@@ -61,11 +61,11 @@ module _ {ns : List ℕ} {t : List Node} {s : Side} {k : ℕ} (d : Sided ns t s 
   pub small : Small s
   unfolding sideLen
   small =
-      let w : len (at t (s .node)) ≤ width = row-there (d .table) (s .node) (d .there) .2 in
+      let w : len (nodeAt t (s .node)) ≤ width = row-there (d .table) (s .node) (d .there) .2 in
       record {
         node = row-there (d .table) (s .node) (d .there) .1;
         offset = omega (arith, d .inside);
-        limit = omega (arith, d .inside, limit-within (s .limit) (len (at t (s .node)) - s .offset));
+        limit = omega (arith, d .inside, limit-within (s .limit) (len (nodeAt t (s .node)) - s .offset));
       }
 
   within : s .offset + k ≤ width
@@ -73,10 +73,10 @@ module _ {ns : List ℕ} {t : List Node} {s : Side} {k : ℕ} (d : Sided ns t s 
 
   -- What the code reads: p is the place of the node's row, m its length.
   module _ {p m : ℕ} (e : p ≡ rowAt (s .node)) (f : m ≡ getD ns p 0) where
-    m-is : m ≡ len (at t (s .node))
+    m-is : m ≡ len (nodeAt t (s .node))
     m-is = f ∙ rw e (len-is (d .table) (s .node) (d .there))
 
-    one-is : getD ns (p + firstColumn) 0 ≡ output (at t (s .node)) 1
+    one-is : getD ns (p + firstColumn) 0 ≡ output (nodeAt t (s .node)) 1
     one-is = rw e (first-is (d .table) (s .node) (d .there))
 
     pub outputs-ready : (getD ns (p + firstColumn) 0 ≤ 2 ^ 30) × (m ≤ width)
@@ -98,5 +98,5 @@ module _ {ns : List ℕ} {t : List Node} {s : Side} {k : ℕ} (d : Sided ns t s 
       literals-are =
           let all : p + listColumn + width - (p + listColumn) ≡ width = omega arith in
           rw (all, g, one-is, m-is, d .length, e)
-          (side-part (drop (listAt (s .node)) ns) (s .offset) (s .limit) (at t (s .node)) (list-is (d .table) (s .node) (d .there))
+          (side-part (drop (listAt (s .node)) ns) (s .offset) (s .limit) (nodeAt t (s .node)) (list-is (d .table) (s .node) (d .there))
           (row-there (d .table) (s .node) (d .there) .2) (d .inside))

@@ -6,7 +6,7 @@ use mathlib.Core.List.{List, [], _∷_, _++_}
 use Prim.Native.Nat.{ℕ, _+_, _-_, _*_, _^_, _≤_, _<_}
 use lib.ListN.{length, replicate}
 use Rattle.sizes.specs.Sizes.{mostLeaves, mostNodes, width, leftColumn, listColumn, leftWindow, rightWindow}
-use Rattle.totdb.specs.Nodes.{Node, at, len, sideLen, leafCount, taken}
+use Rattle.totdb.specs.Nodes.{Node, nodeAt, len, sideLen, leafCount, taken}
 use Rattle.totdb.specs.declared.Side.{Side}
 use Rattle.rows.specs.Rows.{Table}
 
@@ -29,10 +29,10 @@ pub record Joinable (ns : List ℕ) (t : List Node) (n variable : ℕ) (l r : Si
   pub apart : l .node ≢ r .node
   pub left-free : taken t (l .node) ≡ false
   pub right-free : taken t (r .node) ≡ false
-  pub left-some : l .offset < len (at t (l .node))
-  pub right-some : r .offset < len (at t (r .node))
-  pub left-in : l .offset + sideLen t l ≤ len (at t (l .node))
-  pub right-in : r .offset + sideLen t r ≤ len (at t (r .node))
+  pub left-some : l .offset < len (nodeAt t (l .node))
+  pub right-some : r .offset < len (nodeAt t (r .node))
+  pub left-in : l .offset + sideLen t l ≤ len (nodeAt t (l .node))
+  pub right-in : r .offset + sideLen t r ≤ len (nodeAt t (r .node))
   pub short : sideLen t l + sideLen t r ≤ width
   pub low : variable ≤ 100000000
 
@@ -41,8 +41,8 @@ pub record Sided (ns : List ℕ) (t : List Node) (s : Side) (k : ℕ) : Type 0 w
   pub table : Table ns t
   pub there : s .node < length t
   pub length : k ≡ sideLen t s
-  pub some : s .offset < len (at t (s .node))
-  pub inside : s .offset + sideLen t s ≤ len (at t (s .node))
+  pub some : s .offset < len (nodeAt t (s .node))
+  pub inside : s .offset + sideLen t s ≤ len (nodeAt t (s .node))
 
 -- A side's numbers, as a row holds them.
 pub record Small (s : Side) : Type 0 where

@@ -6,7 +6,7 @@ ghost use Prim.Native.Nat.{_+_, _≤_, _<_};
 ghost use lib.ListN.{length, set};
 ghost use lib.Seq.{paste, sets};
 ghost use Rattle.sizes.specs.Sizes.{row, rowAt, takenAt, width, mostNodes};
-ghost use Rattle.totdb.specs.Nodes.{Node, leaf, at, len, joined, part, plainOr, sideLen, sideLeaves, leafCount};
+ghost use Rattle.totdb.specs.Nodes.{Node, leaf, nodeAt, len, joined, part, plainOr, sideLen, sideLeaves, leafCount};
 ghost use Rattle.rows.specs.Rows.{Table};
 ghost use Rattle.nodes.specs.Added.{Leafable, Joinable, Sided, Small, leafNumbers, sideNumbers, joinNumbers};
 
@@ -37,7 +37,7 @@ pub fn taken(nodes: &[u32], node: usize) -> bool
 // The length of a node.
 pub fn len(nodes: &[u32], node: usize) -> usize
     requires { ⌜ ((t : List Node) × Table (now nodes) t × (node < length t)) ⌝ }
-    ensures { λ r. ⌜ ((t : List Node) → Table (now (nodes .entry)) t → node < length t → r ≡ len (at t node)) ⌝ }
+    ensures { λ r. ⌜ ((t : List Node) → Table (now (nodes .entry)) t → node < length t → r ≡ len (nodeAt t node)) ⌝ }
 {
     rows::number_at(nodes, rows::row_at(node))
 }
@@ -151,7 +151,7 @@ fn join_row(
     row[sizes::LEN] = (l_len + r_len) as u32;
     row[sizes::FIRST] = 2 * variable;
     row[sizes::KIND] = 1;
-    let base = sizes::TRAIL + sizes::STORE_ROW * n;
+    let base = sizes::STORE_START + sizes::STORE_ROW * n;
     put_side(&mut row, sizes::LEFT, l, l_len, base + sizes::LEFT_WINDOW);
     put_side(&mut row, sizes::RIGHT, r, r_len, base + sizes::RIGHT_WINDOW);
     row

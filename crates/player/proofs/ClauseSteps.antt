@@ -17,7 +17,7 @@ use Rattle.pb.proofs.Normal.{Off, Apart}
 use Rattle.record.specs.Record.{Record, sum, derivation, clause, deletion, clauses, steps}
 use Rattle.record.specs.Steps.{stepSum, sumsAfter, stepOf}
 use Rattle.record.proofs.Steps.{sums-append, step-known}
-use Rattle.totdb.specs.Nodes.{Node, leaf, join, at, leaves, len, output, sideLen, sideLit, sideLeaves, known, joined}
+use Rattle.totdb.specs.Nodes.{Node, leaf, join, nodeAt, leaves, len, output, sideLen, sideLit, sideLeaves, known, joined}
 use Rattle.totdb.specs.declared.Side.{Side}
 use Rattle.cert.specs.Definitions.{Key, Definition, if, only-if, Direction, real, stored, realDef, sideDef, pulls, keyRecords}
 use Rattle.cert.specs.Requests.{Request, request, Lookup, of-node, Clause, ifClause, onlyIfClause, clausesOf, splits, definition, keyOf, lookedUp, looksOf, defTokens, clauseTokens, Right}
@@ -100,29 +100,29 @@ unfolding keyOf
 has-one s d j i e has = has j (rw e (List·Memᴰ·head refl))
 
 module _ (h : Head) (t : List Node) (sz : Sized t) (d : Distinct t) (s : State) (k : KnownIn h t s) (closed : Closed s) where
-  module _ (n : ℕ) (m : List ℕ) (o : ℕ) (l r : Side) (there : n < length t) (e : at t n ≡ join m o l r) where
+  module _ (n : ℕ) (m : List ℕ) (o : ℕ) (l r : Side) (there : n < length t) (e : nodeAt t n ≡ join m o l r) where
     fit : Fit t n (join m o l r)
     unfolding Sized
     fit = subst (Fit t n) e (sz n there)
 
-    whole : leaves (at t n) ≡ sideLeaves t l ++ sideLeaves t r
+    whole : leaves (nodeAt t n) ≡ sideLeaves t l ++ sideLeaves t r
     unfolding Fit leaves
     whole = ap leaves e ∙ fit .6
 
-    long : 1 < len (at t n)
+    long : 1 < len (nodeAt t n)
     unfolding Fit len leaves
     long = rw e (omega (arith, fit .5, fit .7, fit .8))
 
-    apart-whole : Apart (units (leaves (at t n)))
-    apart-whole = different-apart (leaves (at t n)) (d .within n there)
+    apart-whole : Apart (units (leaves (nodeAt t n)))
+    apart-whole = different-apart (leaves (nodeAt t n)) (d .within n there)
 
     apart-right : Apart (units (sideLeaves t r))
     apart-right = different-apart (sideLeaves t r) (different-right (sideLeaves t l) (sideLeaves t r) (subst Different whole (d .within n there)))
 
     -- A literal of a side is no output of the join.
-    side-this : (c : Side) → c .node < n → c .offset + sideLen t c ≤ len (at t (c .node)) → (a v : ℕ) → 1 ≤ a → a ≤ sideLen t c → 1 ≤ v
-        → v ≤ len (at t n)
-        → variable (sideLit t c a) ≢ variable (output (at t n) v)
+    side-this : (c : Side) → c .node < n → c .offset + sideLen t c ≤ len (nodeAt t (c .node)) → (a v : ℕ) → 1 ≤ a → a ≤ sideLen t c → 1 ≤ v
+        → v ≤ len (nodeAt t n)
+        → variable (sideLit t c a) ≢ variable (output (nodeAt t n) v)
     unfolding sideLit
     side-this c lower inside a v x y z w =
         d .outputs (c .node) n (c .offset + a) v (omega arith) there (λ q. absurd (omega arith)) (omega arith) (omega arith) z w
@@ -141,19 +141,19 @@ module _ (h : Head) (t : List Node) (sz : Sized t) (d : Distinct t) (s : State) 
         let f = subst (LeftApart t) e (d .lefts n there) in
         off-units (variable (sideLit t l a)) (sideLeaves t r) (λ w i. f .2 (l .offset + a) w (omega arith) (omega (arith, fit .3)) i)
 
-    module _ (v : ℕ) (low : 1 ≤ v) (high : v ≤ len (at t n)) where
-      own : Off (variable (output (at t n) v)) (units (leaves (at t n)))
+    module _ (v : ℕ) (low : 1 ≤ v) (high : v ≤ len (nodeAt t n)) where
+      own : Off (variable (output (nodeAt t n) v)) (units (leaves (nodeAt t n)))
       own = node-off h t sz d s k closed n there long v low high
 
-      own-right : Off (variable (output (at t n) v)) (units (sideLeaves t r))
+      own-right : Off (variable (output (nodeAt t n) v)) (units (sideLeaves t r))
       own-right =
-          off-right (variable (output (at t n) v)) (sideLeaves t l) (sideLeaves t r)
-          (subst (λ (ls : List ℕ). Off (variable (output (at t n) v)) (units ls)) whole own)
+          off-right (variable (output (nodeAt t n) v)) (sideLeaves t l) (sideLeaves t r)
+          (subst (λ (ls : List ℕ). Off (variable (output (nodeAt t n) v)) (units ls)) whole own)
 
       -- The real definitions of this value, and the step of each.
       reals : List (Option Sum)
-      reals = some (normal (real-if (leaves (at t n)) (output (at t n) v) v)) ∷ some
-          (normal (real-only-if (leaves (at t n)) (output (at t n) v) v)) ∷ []
+      reals = some (normal (real-if (leaves (nodeAt t n)) (output (nodeAt t n) v) v)) ∷ some
+          (normal (real-only-if (leaves (nodeAt t n)) (output (nodeAt t n) v) v)) ∷ []
 
       this-step : (i : ℕ) → i < 2 → (e : Definition) → e ≡ stored (real n v) i → Has s e
           → stepSum (h .step) (knownOf h s) (stepIn (s .stored) (real n v) i) ≡ getD reals i none
@@ -163,16 +163,16 @@ module _ (h : Head) (t : List Node) (sz : Sized t) (d : Distinct t) (s : State) 
           (real-ready h t d s k n v low high (has-one s e (real n v) i q has) [] i (getD reals i none) g refl)
 
       if-comes : (a : ℕ) → List·Memᴰ a (splits v (sideLen t l) (sideLen t r))
-          → AllAvailable t (ifClause t n (at t n) l r v a) → HasAll t s (ifClause t n (at t n) l r v a) → ComesTo h t s (ifClause t n (at t n) l r v a)
+          → AllAvailable t (ifClause t n (nodeAt t n) l r v a) → HasAll t s (ifClause t n (nodeAt t n) l r v a) → ComesTo h t s (ifClause t n (nodeAt t n) l r v a)
       unfolding ifClause definition clauseTokens Fit reals
       if-comes a i av has =
           let b : ℕ = v - a in
           let p = splits-mem v (sideLen t l) (sideLen t r) a i in
-          let z = has-parts t s (ifClause t n (at t n) l r v a) has in
+          let z = has-parts t s (ifClause t n (nodeAt t n) l r v a) has in
           let this = this-if n v low in
           let nl = sideLeaves-length t l in
           let nr = sideLeaves-length t r in
-          let y = output (at t n) v in
+          let y = output (nodeAt t n) v in
           let defs : Definition → List Token = defTokens (stepIn (s .stored)) in
           rw this (unfold defTokens in
           if-evaluates (stepSum (h .step) (knownOf h s)) (stepIn (s .stored) (real n v) 0) (defs (sideDef t l a only-if))
@@ -180,7 +180,7 @@ module _ (h : Head) (t : List Node) (sz : Sized t) (d : Distinct t) (s : State) 
           (sideLeaves t l) (sideLeaves t r) y (sideLit t l a) (sideLit t r b) v a b (omega (arith, nl, p))
           (omega (arith, nr, p)) apart-right own-right
           (rw (← whole) (this-step 0 (omega arith) (realDef n v if) this (z .2)))
-          (rw (← whole) (real-if-clean (leaves (at t n)) y apart-whole own v))
+          (rw (← whole) (real-if-clean (leaves (nodeAt t n)) y apart-whole own v))
           (side-only h t sz d s k closed l (omega (arith, fit .0)) (fit .3) (fit .7) a (av _ (List·Memᴰ·head refl)) (z .0))
           (side-only h t sz d s k closed r (omega (arith, fit .1)) (fit .4) (fit .8) b (av _ (List·Memᴰ·tail (List·Memᴰ·head refl))) (z .1))
           (omega (arith, p))
@@ -191,17 +191,17 @@ module _ (h : Head) (t : List Node) (sz : Sized t) (d : Distinct t) (s : State) 
           ∙ ap (λ (c : List ℕ). some (normal (clauseSum c))) (if-literals t l r a b y))
 
       only-if-comes : (a : ℕ) → List·Memᴰ a (splits (v - 1) (sideLen t l) (sideLen t r))
-          → AllAvailable t (onlyIfClause t n (at t n) l r v a) → HasAll t s (onlyIfClause t n (at t n) l r v a)
-          → ComesTo h t s (onlyIfClause t n (at t n) l r v a)
+          → AllAvailable t (onlyIfClause t n (nodeAt t n) l r v a) → HasAll t s (onlyIfClause t n (nodeAt t n) l r v a)
+          → ComesTo h t s (onlyIfClause t n (nodeAt t n) l r v a)
       unfolding onlyIfClause definition clauseTokens Fit reals
       only-if-comes a i av has =
           let b : ℕ = v - 1 - a in
           let p = splits-mem (v - 1) (sideLen t l) (sideLen t r) a i in
-          let z = has-parts t s (onlyIfClause t n (at t n) l r v a) has in
+          let z = has-parts t s (onlyIfClause t n (nodeAt t n) l r v a) has in
           let this = this-only n v low in
           let nl = sideLeaves-length t l in
           let nr = sideLeaves-length t r in
-          let y = output (at t n) v in
+          let y = output (nodeAt t n) v in
           let defs : Definition → List Token = defTokens (stepIn (s .stored)) in
           rw this (unfold defTokens in
           only-if-evaluates (stepSum (h .step) (knownOf h s)) (stepIn (s .stored) (real n v) 1) (defs (sideDef t l (suc a) if))
@@ -209,7 +209,7 @@ module _ (h : Head) (t : List Node) (sz : Sized t) (d : Distinct t) (s : State) 
           (sideLeaves t l) (sideLeaves t r) y (sideLit t l (suc a)) (sideLit t r (suc b)) v a b (omega (arith, nl, p))
           (omega (arith, nr, p)) apart-right own-right
           (rw (← whole) (this-step 1 (omega arith) (realDef n v only-if) this (z .2)))
-          (rw (← whole) (real-only-clean (leaves (at t n)) y apart-whole own v))
+          (rw (← whole) (real-only-clean (leaves (nodeAt t n)) y apart-whole own v))
           (rw (add-one a) (side-if h t sz d s k closed l (omega (arith, fit .0)) (fit .3) (fit .7) (suc a) (av _ (List·Memᴰ·head refl)) (omega (arith, p)) (z .0)))
           (rw (add-one b) (side-if h t sz d s k closed r (omega (arith, fit .1)) (fit .4) (fit .8) (suc b) (av _ (List·Memᴰ·tail (List·Memᴰ·head refl))) (omega (arith, p)) (z .1)))
           (omega (arith, p))
@@ -222,12 +222,12 @@ module _ (h : Head) (t : List Node) (sz : Sized t) (d : Distinct t) (s : State) 
   -- Every clause of a right request.
   clause-comes : (x : Request) (c : Clause) → Right t x → List·Memᴰ c (clausesOf t x) → HasAll t s c → ComesTo h t s c
   unfolding clausesOf Right ifClause onlyIfClause
-  clause-comes (request n v dir) c g m = go refl (clause-form t n v (at t n) dir c m) (clause-available t (request n v dir) c g m)
+  clause-comes (request n v dir) c g m = go refl (clause-form t n v (nodeAt t n) dir c m) (clause-available t (request n v dir) c g m)
     where
       own : {l r a : Lookup} → List·Memᴰ a (l ∷ r ∷ a ∷ [])
       own = List·Memᴰ·tail (List·Memᴰ·tail (List·Memᴰ·head refl))
 
-      go : {x : Node} {dir : Direction} {c : Clause} → at t n ≡ x → ClauseForm t n v x dir c → AllAvailable t c → HasAll t s c → ComesTo h t s c
+      go : {x : Node} {dir : Direction} {c : Clause} → nodeAt t n ≡ x → ClauseForm t n v x dir c → AllAvailable t c → HasAll t s c → ComesTo h t s c
       go e (an-if {ls = ls} {o = o} {l = l} {r = r} a m) av =
           subst (λ (y : Node). let c = ifClause t n y l r v a in AllAvailable t c → HasAll t s c → ComesTo h t s c) e
           (if-comes n ls o l r (g .0) e v (node-if-from v (av (of-node n v if) own)) (g .2) a m) av

@@ -15,7 +15,7 @@ use Rattle.memo.proofs.Lists.{flatMap-append}
 use Rattle.record.specs.Record.{Record, derivation, clause, tokenNumbers, steps, deletion, numbers, bytes, decodeLog}
 use Rattle.record.proofs.Bytes.{two-bytes}
 use Rattle.record.proofs.Decode.{Small, decode-bytes}
-use Rattle.totdb.specs.Nodes.{Node, len, leaf, join, output, leaves, at, sideLen, sideLit, sideOutputs, outputs, range, plainOr, sideLeaves, known, joined}
+use Rattle.totdb.specs.Nodes.{Node, len, leaf, join, output, leaves, nodeAt, sideLen, sideLit, sideOutputs, outputs, range, plainOr, sideLeaves, known, joined}
 use Rattle.totdb.specs.declared.Side.{Side}
 use Rattle.cert.specs.Counted.{Counted}
 use Rattle.cert.specs.Definitions.{Direction, oneDef, if, only-if, realDef, stored, real, windowDef, window, sideDef, definedBy, Key, window-zero, keyRecords}
@@ -49,15 +49,15 @@ node-low (leaf m) i v a b f g = f m refl
 node-low (join ls o l r) i v a b f g = omega (arith, g ls o l r refl)
 
 module _ (h : Head) (s : State) (p : Sound h s) where
-  pub output-low : (n i : ℕ) → n < length (s .nodes) → 1 ≤ i → i ≤ len (at (s .nodes) n) → output (at (s .nodes) n) i < 2 * s .next-variable
+  pub output-low : (n i : ℕ) → n < length (s .nodes) → 1 ≤ i → i ≤ len (nodeAt (s .nodes) n) → output (nodeAt (s .nodes) n) i < 2 * s .next-variable
   output-low n i l a b =
-      node-low (at (s .nodes) n) i (s .next-variable) a b (λ m e. omega (arith, p .numbered .leaf-low n m l e, p .high))
+      node-low (nodeAt (s .nodes) n) i (s .next-variable) a b (λ m e. omega (arith, p .numbered .leaf-low n m l e, p .high))
       (λ ls o c d e. p .after n ls o c d l e)
 
-  outputs-low : (t : Side) → t .node < length (s .nodes) → t .offset + sideLen (s .nodes) t ≤ len (at (s .nodes) (t .node))
+  outputs-low : (t : Side) → t .node < length (s .nodes) → t .offset + sideLen (s .nodes) t ≤ len (nodeAt (s .nodes) (t .node))
       → AllBelow (2 * s .next-variable) (sideOutputs (s .nodes) t)
   unfolding sideOutputs outputs
-  outputs-low t l f = below-map (2 * s .next-variable) (output (at (s .nodes) (t .node))) (range (t .offset + 1) (sideLen (s .nodes) t))
+  outputs-low t l f = below-map (2 * s .next-variable) (output (nodeAt (s .nodes) (t .node))) (range (t .offset + 1) (sideLen (s .nodes) t))
       (λ i m. let k = range-mem (t .offset + 1) (sideLen (s .nodes) t) i m in output-low (t .node) i l (omega (arith, k .0)) (omega (arith, k .1)))
 
   either-low : (f k : ℕ) (ls os : List ℕ) → AllBelow (2 * s .next-variable) ls → AllBelow (2 * s .next-variable) os
@@ -67,19 +67,19 @@ module _ (h : Head) (s : State) (p : Sound h s) where
   either-low zero (suc k) ls os a b = b
   either-low (suc f) k ls os a b = b
 
-  pub leaves-low : (k n : ℕ) → n < k → n < length (s .nodes) → AllBelow (2 * s .next-variable) (leaves (at (s .nodes) n))
+  pub leaves-low : (k n : ℕ) → n < k → n < length (s .nodes) → AllBelow (2 * s .next-variable) (leaves (nodeAt (s .nodes) n))
   unfolding Sized Fit leaves AllBelow
   leaves-low zero n l g = absurd (omega arith)
-  leaves-low (suc k) n l g = by (at (s .nodes) n) refl (p .sized n g) (leaves-low k)
+  leaves-low (suc k) n l g = by (nodeAt (s .nodes) n) refl (p .sized n g) (leaves-low k)
     where
-      side : (c : Side) → ((m : ℕ) → m < k → m < length (s .nodes) → AllBelow (2 * s .next-variable) (leaves (at (s .nodes) m))) → c .node < n
-          → c .offset + sideLen (s .nodes) c ≤ len (at (s .nodes) (c .node)) → AllBelow (2 * s .next-variable) (sideLeaves (s .nodes) c)
+      side : (c : Side) → ((m : ℕ) → m < k → m < length (s .nodes) → AllBelow (2 * s .next-variable) (leaves (nodeAt (s .nodes) m))) → c .node < n
+          → c .offset + sideLen (s .nodes) c ≤ len (nodeAt (s .nodes) (c .node)) → AllBelow (2 * s .next-variable) (sideLeaves (s .nodes) c)
       side c ih i j = unfold sideLeaves in
-          either-low (c .offset) (c .limit) (leaves (at (s .nodes) (c .node))) (sideOutputs (s .nodes) c) (ih (c .node) (omega arith) (omega arith))
+          either-low (c .offset) (c .limit) (leaves (nodeAt (s .nodes) (c .node))) (sideOutputs (s .nodes) c) (ih (c .node) (omega arith) (omega arith))
           (outputs-low c (omega arith) j)
 
-      by : (x : Node) → at (s .nodes) n ≡ x → Fit (s .nodes) n x
-          → ((m : ℕ) → m < k → m < length (s .nodes) → AllBelow (2 * s .next-variable) (leaves (at (s .nodes) m)))
+      by : (x : Node) → nodeAt (s .nodes) n ≡ x → Fit (s .nodes) n x
+          → ((m : ℕ) → m < k → m < length (s .nodes) → AllBelow (2 * s .next-variable) (leaves (nodeAt (s .nodes) m)))
           → AllBelow (2 * s .next-variable) (leaves x)
       by (leaf m) e f ih = (omega (arith, p .numbered .leaf-low n m g e, p .high), tt)
       by (join ls o a b) e f ih =
@@ -94,14 +94,14 @@ negs-low : (v : ℕ) (ls : List ℕ) → AllBelow (2 * v) ls → AllBelow (2 * v
 negs-low v ls p = below-map (2 * v) neg ls (λ l m. neg-low l v (below-at (2 * v) ls p l m))
 
 pub low-nodes : (h : Head) (s : State) (b : ℕ) → Sound h s → Treed h s → 2 * s .next-variable + 2 ≤ b → 300 ≤ b → (n : ℕ) → n < length (s .nodes)
-    → LowNode b (at (s .nodes) n)
+    → LowNode b (nodeAt (s .nodes) n)
 low-nodes h s b p k l m n g =
     let v = s .next-variable in
     let ls = leaves-low h s p (suc n) n (omega arith) g in
     record {
-      lits = below-mono (2 * v) b (leaves (at (s .nodes) n)) (omega arith) ls;
-      nots = below-mono (2 * v) b (map neg (leaves (at (s .nodes) n))) (omega arith) (negs-low v (leaves (at (s .nodes) n)) ls);
-      outs = λ i x y. let o = output-low h s p n i g x y in omega (arith, o, neg-low (output (at (s .nodes) n) i) v o);
+      lits = below-mono (2 * v) b (leaves (nodeAt (s .nodes) n)) (omega arith) ls;
+      nots = below-mono (2 * v) b (map neg (leaves (nodeAt (s .nodes) n))) (omega arith) (negs-low v (leaves (nodeAt (s .nodes) n)) ls);
+      outs = λ i x y. let o = output-low h s p n i g x y in omega (arith, o, neg-low (output (nodeAt (s .nodes) n) i) v o);
       short = omega (arith, k .each n g);
     }
 
@@ -125,26 +125,26 @@ windowDef-low b n f m zero d h g = omega arith
 windowDef-low b n f m (suc v) if h g = omega arith
 windowDef-low b n f m (suc v) only-if h g = omega arith
 
-module _ (t : List Node) (b : ℕ) (low : (n : ℕ) → n < length t → LowNode b (at t n)) (short : (n : ℕ) → n < length t → len (at t n) ≤ width) where
-  lit-low : (s : Side) → s .node < length t → s .offset + sideLen t s ≤ len (at t (s .node)) → (i : ℕ) → 1 ≤ i → i ≤ sideLen t s → (sideLit t s i < b)
+module _ (t : List Node) (b : ℕ) (low : (n : ℕ) → n < length t → LowNode b (nodeAt t n)) (short : (n : ℕ) → n < length t → len (nodeAt t n) ≤ width) where
+  lit-low : (s : Side) → s .node < length t → s .offset + sideLen t s ≤ len (nodeAt t (s .node)) → (i : ℕ) → 1 ≤ i → i ≤ sideLen t s → (sideLit t s i < b)
       × (neg (sideLit t s i) < b)
   unfolding sideLit
   lit-low s h f i a c = omega (arith, low (s .node) h .outs (s .offset + i) (omega arith) (omega arith))
 
-  sideDef-low : (s : Side) (i : ℕ) (d : Direction) → s .node < length t → s .offset + sideLen t s ≤ len (at t (s .node)) → 1 ≤ sideLen t s
+  sideDef-low : (s : Side) (i : ℕ) (d : Direction) → s .node < length t → s .offset + sideLen t s ≤ len (nodeAt t (s .node)) → 1 ≤ sideLen t s
       → i ≤ sideLen t s + 1 → DefLow b (sideDef t s i d)
   sideDef-low s i d h f o l =
       by-form (DefLow b) t s i d (λ _. let k = lit-low s h f 1 (omega arith) o in oneDef-low b (sideLit t s 1) i (k .0) (k .1))
       (λ _ _ _. realDef-low b (s .node) i d)
       (λ _ _ v k. windowDef-low b (s .node) (s .offset) (sideLen t s) v d (omega (arith, short (s .node) h)) (omega (arith, key-most i k)))
 
-  negPart-low : (s : Side) → s .node < length t → s .offset + sideLen t s ≤ len (at t (s .node)) → (i : ℕ) → i ≤ sideLen t s
+  negPart-low : (s : Side) → s .node < length t → s .offset + sideLen t s ≤ len (nodeAt t (s .node)) → (i : ℕ) → i ≤ sideLen t s
       → AllBelow b (negPart t s i)
   unfolding negPart AllBelow
   negPart-low s h f zero l = tt
   negPart-low s h f (suc i) l = (lit-low s h f (suc i) (omega arith) l .1, tt)
 
-  posPart-low : (s : Side) → s .node < length t → s .offset + sideLen t s ≤ len (at t (s .node)) → (i : ℕ) → 1 ≤ i → AllBelow b (posPart t s i)
+  posPart-low : (s : Side) → s .node < length t → s .offset + sideLen t s ≤ len (nodeAt t (s .node)) → (i : ℕ) → 1 ≤ i → AllBelow b (posPart t s i)
   unfolding posPart
   posPart-low s h f i l = by (decLe i (sideLen t s))
     where
@@ -160,12 +160,12 @@ module _ (t : List Node) (b : ℕ) (low : (n : ℕ) → n < length t → LowNode
 
   pub clause-low : Sized t → (x : Request) (c : Clause) → Right t x → List·Memᴰ c (clausesOf t x) → ClauseLow c
   unfolding clausesOf Right Fit Sized definition ifClause onlyIfClause
-  clause-low sz (request n v d) c g m = go refl (sz n (g .0)) (clause-form t n v (at t n) d c m)
+  clause-low sz (request n v d) c g m = go refl (sz n (g .0)) (clause-form t n v (nodeAt t n) d c m)
     where
-      out : (y : Node) → at t n ≡ y → (output y v < b) × (neg (output y v) < b)
+      out : (y : Node) → nodeAt t n ≡ y → (output y v < b) × (neg (output y v) < b)
       out y e = rw (← e) (omega (arith, low n (g .0) .outs v (g .1) (g .2)))
 
-      go : {y : Node} {d : Direction} {c : Clause} → at t n ≡ y → Fit t n y → ClauseForm t n v y d c → ClauseLow c
+      go : {y : Node} {d : Direction} {c : Clause} → nodeAt t n ≡ y → Fit t n y → ClauseForm t n v y d c → ClauseLow c
       go e f (an-if {ls = ls} {o = o} {l = l} {r = r} a m) =
           let q = splits-mem v (sideLen t l) (sideLen t r) a m in
           let hl : l .node < length t = omega (arith, f .0, g .0) in
@@ -219,8 +219,8 @@ stepIn-low n es h (window m f q) (suc i) = omega (arith, fromIn-low n es h (wind
 append-low : (b : ℕ) (rs qs : List Record) → AllBelow b (flatMap values rs) → AllBelow b (flatMap values qs) → AllBelow b (flatMap values (rs ++ qs))
 append-low b rs qs p q = subst (AllBelow b) (sym (flatMap-append values rs qs)) (below-append b (flatMap values rs) (flatMap values qs) p q)
 
-module _ (b : ℕ) (big : 300 ≤ b) (t : List Node) (sz : Sized t) (low : (n : ℕ) → n < length t → LowNode b (at t n))
-    (short : (n : ℕ) → n < length t → len (at t n) ≤ width) where
+module _ (b : ℕ) (big : 300 ≤ b) (t : List Node) (sz : Sized t) (low : (n : ℕ) → n < length t → LowNode b (nodeAt t n))
+    (short : (n : ℕ) → n < length t → len (nodeAt t n) ≤ width) where
   steps-low : (s : State) → LowLog b t s → s .next-step + 200 ≤ b → (k : Key) (i : ℕ) → i ≤ 130 → stepIn (s .stored) k i < b
   steps-low s p h k i l = omega (arith, stepIn-low (s .next-step) (s .stored) (λ e m. omega (arith, p .froms e m)) k i)
 

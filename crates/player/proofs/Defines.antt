@@ -15,7 +15,7 @@ use Rattle.memo.proofs.Lists.{flatMap-append, flatMap-agree}
 use Rattle.record.specs.Record.{Record, sum, derivation, clause, deletion, steps}
 use Rattle.record.specs.Steps.{names, definedFrom, Defined, written, derived, sumsAfter, stepOf, defined}
 use Rattle.record.proofs.Steps.{sums-append, sums-grow, sums-length, step-known}
-use Rattle.totdb.specs.Nodes.{Node, len, at, known, leaf, joined}
+use Rattle.totdb.specs.Nodes.{Node, len, known, leaf, joined}
 use Rattle.cert.specs.Counted.{Counted}
 use Rattle.cert.specs.Definitions.{Key, keyRecords, definedBy, pulls}
 use Rattle.cert.specs.Requests.{Clause, clauseTokens, Request, Right}

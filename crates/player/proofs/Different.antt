@@ -9,7 +9,7 @@ use native.Mathlib.Omega.{arith}
 use lib.ListN.{length}
 use Rattle.pb.specs.Sum.{variable, neg}
 use Rattle.pb.proofs.Terms.{same-variable}
-use Rattle.totdb.specs.Nodes.{Node, len, at, output, leaf, taken, leaves, join, range, isOver, sideLeaves, sideLen, sideOutputs, outputs, plainOr, known, joined}
+use Rattle.totdb.specs.Nodes.{Node, len, nodeAt, output, leaf, taken, leaves, join, range, isOver, sideLeaves, sideLen, sideOutputs, outputs, plainOr, known, joined}
 use Rattle.totdb.specs.declared.Side.{Side}
 use Rattle.cert.specs.State.{State, requests, Head}
 use Rattle.cert.proofs.Apart.{range-mem, sized-ok}
@@ -33,26 +33,26 @@ module _ (h : Head) (s : State) (p : Sound h s) (d : Distinct (s .nodes)) (l r :
 
   -- What a side hands on: literals of the leaf list of its node, or outputs of it.
   Handed : Side → ℕ → Type 0
-  Handed c x = List·Memᴰ x (leaves (at (s .nodes) (c .node))) ⊎
-      ((i : ℕ) × (1 ≤ i) × (i ≤ len (at (s .nodes) (c .node))) × (x ≡ output (at (s .nodes) (c .node)) i))
+  Handed c x = List·Memᴰ x (leaves (nodeAt (s .nodes) (c .node))) ⊎
+      ((i : ℕ) × (1 ≤ i) × (i ≤ len (nodeAt (s .nodes) (c .node))) × (x ≡ output (nodeAt (s .nodes) (c .node)) i))
 
-  handed : (c : Side) → c .offset + sideLen (s .nodes) c ≤ len (at (s .nodes) (c .node)) → (x : ℕ) → List·Memᴰ x (sideLeaves (s .nodes) c)
+  handed : (c : Side) → c .offset + sideLen (s .nodes) c ≤ len (nodeAt (s .nodes) (c .node)) → (x : ℕ) → List·Memᴰ x (sideLeaves (s .nodes) c)
       → Handed c x
   unfolding Handed sideLeaves
   handed c g x m = by (c .offset) (c .limit) m
     where
       out : List·Memᴰ x (sideOutputs (s .nodes) c)
-          → List·Memᴰ x (leaves (at (s .nodes) (c .node))) ⊎
-          ((i : ℕ) × (1 ≤ i) × (i ≤ len (at (s .nodes) (c .node))) × (x ≡ output (at (s .nodes) (c .node)) i))
+          → List·Memᴰ x (leaves (nodeAt (s .nodes) (c .node))) ⊎
+          ((i : ℕ) × (1 ≤ i) × (i ≤ len (nodeAt (s .nodes) (c .node))) × (x ≡ output (nodeAt (s .nodes) (c .node)) i))
       out m =
           let q =
-          Memᴰ·of-map (output (at (s .nodes) (c .node))) (range (c .offset + 1) (sideLen (s .nodes) c)) (unfold sideOutputs outputs in m) in
+          Memᴰ·of-map (output (nodeAt (s .nodes) (c .node))) (range (c .offset + 1) (sideLen (s .nodes) c)) (unfold sideOutputs outputs in m) in
           let k = range-mem (c .offset + 1) (sideLen (s .nodes) c) (q .0) (q .1) in
           inr (q .0, omega (arith, k), omega (arith, k), sym (q .2))
 
-      by : (o k : ℕ) → List·Memᴰ x (plainOr o k (leaves (at (s .nodes) (c .node))) (sideOutputs (s .nodes) c))
-          → List·Memᴰ x (leaves (at (s .nodes) (c .node))) ⊎
-          ((i : ℕ) × (1 ≤ i) × (i ≤ len (at (s .nodes) (c .node))) × (x ≡ output (at (s .nodes) (c .node)) i))
+      by : (o k : ℕ) → List·Memᴰ x (plainOr o k (leaves (nodeAt (s .nodes) (c .node))) (sideOutputs (s .nodes) c))
+          → List·Memᴰ x (leaves (nodeAt (s .nodes) (c .node))) ⊎
+          ((i : ℕ) × (1 ≤ i) × (i ≤ len (nodeAt (s .nodes) (c .node))) × (x ≡ output (nodeAt (s .nodes) (c .node)) i))
       by zero zero m = inl (unfold plainOr in m)
       by zero (suc k) m = out (unfold plainOr in m)
       by (suc o) k m = out (unfold plainOr in m)
@@ -70,15 +70,15 @@ module _ (h : Head) (s : State) (p : Sound h s) (d : Distinct (s .nodes)) (l r :
   handed-apart c e hc he ne fc fe x y (inr i) (inr j) =
       rw (i .3, j .3) (d .outputs (c .node) (e .node) (i .0) (j .0) hc he ne (i .1) (i .2) (j .1) (j .2))
 
-  side-different : (c : Side) → c .node < length (s .nodes) → c .offset + sideLen (s .nodes) c ≤ len (at (s .nodes) (c .node))
+  side-different : (c : Side) → c .node < length (s .nodes) → c .offset + sideLen (s .nodes) c ≤ len (nodeAt (s .nodes) (c .node))
       → Different (sideLeaves (s .nodes) c)
   unfolding sideLeaves
   side-different c hc g = by (c .offset) (c .limit)
     where
       out : Different (sideOutputs (s .nodes) c)
-      out = unfold sideOutputs in shifted (at (s .nodes) (c .node)) (c .offset) (sideLen (s .nodes) c) g
+      out = unfold sideOutputs in shifted (nodeAt (s .nodes) (c .node)) (c .offset) (sideLen (s .nodes) c) g
 
-      by : (o k : ℕ) → Different (plainOr o k (leaves (at (s .nodes) (c .node))) (sideOutputs (s .nodes) c))
+      by : (o k : ℕ) → Different (plainOr o k (leaves (nodeAt (s .nodes) (c .node))) (sideOutputs (s .nodes) c))
       by zero zero = unfold plainOr in d .within (c .node) hc
       by zero (suc k) = unfold plainOr in out
       by (suc o) k = unfold plainOr in out
@@ -118,10 +118,10 @@ module _ (h : Head) (s : State) (p : Sound h s) (d : Distinct (s .nodes)) (l r :
         below = inr (taken-snoc u b (c .node) ∙ or-right (taken u (c .node)) (isOver (c .node) b) over, hc);
       }
 
-  new-variables : (n i j : ℕ) → n < length (s .nodes) → 1 ≤ i → i ≤ len (at (s .nodes) n) → 1 ≤ j
-      → variable (output (at (s .nodes) n) i) ≢ variable (output (join (sideLeaves (s .nodes) l ++ sideLeaves (s .nodes) r) (s .next-variable) l r) j)
+  new-variables : (n i j : ℕ) → n < length (s .nodes) → 1 ≤ i → i ≤ len (nodeAt (s .nodes) n) → 1 ≤ j
+      → variable (output (nodeAt (s .nodes) n) i) ≢ variable (output (join (sideLeaves (s .nodes) l ++ sideLeaves (s .nodes) r) (s .next-variable) l r) j)
   new-variables n i j hn x y z =
-      λ e. higher (output (at (s .nodes) n) i) (s .next-variable) j (sideLeaves (s .nodes) l ++ sideLeaves (s .nodes) r) l r
+      λ e. higher (output (nodeAt (s .nodes) n) i) (s .next-variable) j (sideLeaves (s .nodes) l ++ sideLeaves (s .nodes) r) l r
       (output-low h s p n i hn x y) z e
 
   pub distinct-join : Distinct (s .nodes ++ (join (sideLeaves (s .nodes) l ++ sideLeaves (s .nodes) r) (s .next-variable) l r ∷ []))
@@ -147,7 +147,7 @@ module _ (h : Head) (s : State) (p : Sound h s) (d : Distinct (s .nodes)) (l r :
         f .left,
         f .right,
         λ i m x y j.
-            handed-apart l r (f .left) (f .right) (f .apart) (f .left-free) (f .right-free) (output (at u (l .node)) i) m
+            handed-apart l r (f .left) (f .right) (f .apart) (f .left-free) (f .right-free) (output (nodeAt u (l .node)) i) m
             (unfold Handed in inr (i, x, y, refl)) (handed r (f .right-in) m j),
       ))
     where
@@ -180,10 +180,10 @@ same-literal l m e = by (ℕ-discrete m l)
 
 module _ (h : Head) (s : State) (p : Sound h s) (d : Distinct (s .nodes)) (l : ℕ) (below-first : variable l < h .variable)
     (new : known (s .nodes) l ≡ false) (new-not : known (s .nodes) (neg l) ≡ false) where
-  leaf-variables : (n i : ℕ) → n < length (s .nodes) → 1 ≤ i → i ≤ len (at (s .nodes) n) → variable (output (at (s .nodes) n) i) ≢ variable l
-  leaf-variables n i hn x y = by (at (s .nodes) n) refl
+  leaf-variables : (n i : ℕ) → n < length (s .nodes) → 1 ≤ i → i ≤ len (nodeAt (s .nodes) n) → variable (output (nodeAt (s .nodes) n) i) ≢ variable l
+  leaf-variables n i hn x y = by (nodeAt (s .nodes) n) refl
     where
-      by : (b : Node) → at (s .nodes) n ≡ b → variable (output b i) ≢ variable l
+      by : (b : Node) → nodeAt (s .nodes) n ≡ b → variable (output b i) ≢ variable l
       by (leaf m) e q = ⊎-elim (λ z. leaf-new (s .nodes) l new n hn (e ∙ ap leaf z)) (λ z. leaf-new (s .nodes) (neg l) new-not n hn (e ∙ ap leaf z))
           (same-literal l m (unfold output in q))
       by (join ls o a b) e q = join-high-variable ls o a b i l (h .variable) below-first (p .numbered .join-high n ls o a b hn e) x q

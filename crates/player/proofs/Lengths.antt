@@ -14,7 +14,7 @@ use Rattle.number.specs.Number.{encode}
 use Rattle.pb.specs.Sum.{variable, neg}
 use Rattle.memo.proofs.Lists.{flatMap-append}
 use Rattle.record.specs.Record.{Record, numbers, bytes, steps, clauses, derivation, clause, deletion}
-use Rattle.totdb.specs.Nodes.{Node, leaf, join, at, leaves, len, range, known, leafCount, taken}
+use Rattle.totdb.specs.Nodes.{Node, leaf, join, nodeAt, leaves, len, range, known, leafCount, taken}
 use Rattle.totdb.specs.declared.Side.{Side}
 use Rattle.cert.specs.Definitions.{keyRecords}
 use Rattle.cert.specs.Requests.{clauseTokens}
@@ -41,13 +41,13 @@ module _ (h : Head) (t : List Node) (n : ℕ) (there : n < length t) where
   unfolding questions firstNo
   value-zero d = rw (lt-ltb n (length t) there)
 
-  pub value-above : (v d : ℕ) → len (at t n) < v → firstNo (questions h t (Command.Request n v d)) ≡ 11
+  pub value-above : (v d : ℕ) → len (nodeAt t n) < v → firstNo (questions h t (Command.Request n v d)) ≡ 11
   unfolding questions firstNo
-  value-above v d g = rw (lt-ltb n (length t) there, le-leb 1 v (omega arith), lt-leb v (len (at t n)) g)
+  value-above v d g = rw (lt-ltb n (length t) there, le-leb 1 v (omega arith), lt-leb v (len (nodeAt t n)) g)
 
-  pub value-within : (v d : ℕ) → 1 ≤ v → v ≤ len (at t n) → 1 ≤ d → d ≤ 3 → firstNo (questions h t (Command.Request n v d)) ≡ 0
+  pub value-within : (v d : ℕ) → 1 ≤ v → v ≤ len (nodeAt t n) → 1 ≤ d → d ≤ 3 → firstNo (questions h t (Command.Request n v d)) ≡ 0
   unfolding questions firstNo
-  value-within v d g k e f = rw (lt-ltb n (length t) there, le-leb 1 v g, le-leb v (len (at t n)) k, le-leb 1 d e, le-leb d 3 f)
+  value-within v d g k e f = rw (lt-ltb n (length t) there, le-leb 1 v g, le-leb v (len (nodeAt t n)) k, le-leb 1 d e, le-leb d 3 f)
 
 -- ---- the offset and the limit of a side
 
@@ -61,9 +61,9 @@ pub record Free (t : List Node) (l r : Side) : Type 0 where
 
 -- A side that question 10 lets pass.
 pub record Inside (t : List Node) (s : Side) : Type 0 where
-  pub below : s .offset < len (at t (s .node))
-  pub within : s .offset + s .limit ≤ len (at t (s .node))
-  pub not-whole : s .offset ≡ 0 → s .limit ≢ len (at t (s .node))
+  pub below : s .offset < len (nodeAt t (s .node))
+  pub within : s .offset + s .limit ≤ len (nodeAt t (s .node))
+  pub not-whole : s .offset ≡ 0 → s .limit ≢ len (nodeAt t (s .node))
 
 inside : (t : List Node) (s : Side) → Inside t s → sideFits t s ≡ true
 inside t s i = answered-yes (side-answer t s) by
@@ -101,18 +101,18 @@ module _ (h : Head) (t : List Node) (l r : Side) (free : Free t l r) where
       by false = refl
 
 -- A plain side lies in every node that has an output.
-pub plain-inside : (t : List Node) (s : Side) → s .offset ≡ 0 → s .limit ≡ 0 → 1 ≤ len (at t (s .node)) → Inside t s
+pub plain-inside : (t : List Node) (s : Side) → s .offset ≡ 0 → s .limit ≡ 0 → 1 ≤ len (nodeAt t (s .node)) → Inside t s
 plain-inside t s e f h = record { below = omega arith; within = omega arith; not-whole = λ _ k. omega arith }
 
 -- Beside a plain side and with no limit, the length - 1 is the last offset that passes.
 module _ (h : Head) (t : List Node) (l r : Side) (free : Free t l r) (unlimited : l .limit ≡ 0)
-    (r-offset : r .offset ≡ 0) (r-limit : r .limit ≡ 0) (r-some : 1 ≤ len (at t (r .node))) where
-  pub offset-last : l .offset + 1 ≡ len (at t (l .node)) → firstNo (questions h t (Command.Join l r)) ≡ 0
+    (r-offset : r .offset ≡ 0) (r-limit : r .limit ≡ 0) (r-some : 1 ≤ len (nodeAt t (r .node))) where
+  pub offset-last : l .offset + 1 ≡ len (nodeAt t (l .node)) → firstNo (questions h t (Command.Join l r)) ≡ 0
   offset-last e =
       sides-inside h t l r free (record { below = omega arith; within = omega arith; not-whole = λ _ k. omega arith })
       (plain-inside t r r-offset r-limit r-some)
 
-  pub offset-length : l .offset ≡ len (at t (l .node)) → firstNo (questions h t (Command.Join l r)) ≡ 10
+  pub offset-length : l .offset ≡ len (nodeAt t (l .node)) → firstNo (questions h t (Command.Join l r)) ≡ 10
   offset-length e = left-outside h t l r free (offset-high (omega arith))
 
 -- ---- the leaves
@@ -253,11 +253,11 @@ unfolding three
 met-zero = value-zero ten three 5 (omega arith) 1
 
 met-above : firstNo (questions ten three (Command.Request 5 4 9)) ≡ 11
-unfolding three len at leaves
+unfolding three len nodeAt leaves
 met-above = value-above ten three 5 (omega arith) 4 9 (omega arith)
 
 met-within : firstNo (questions ten three (Command.Request 5 3 3)) ≡ 0
-unfolding three len at leaves
+unfolding three len nodeAt leaves
 met-within = value-within ten three 5 (omega arith) 3 3 (omega arith) (omega arith) (omega arith) (omega arith)
 
 free-three : (f k g j : ℕ) → Free three (side 5 f k) (side 3 g j)
@@ -265,25 +265,25 @@ unfolding three taken side
 free-three f k g j = record { left = omega arith; right = omega arith; apart = λ e. omega arith; left-free = refl; right-free = refl }
 
 met-last : firstNo (questions ten three (Command.Join (side 5 2 0) (side 3 0 0))) ≡ 0
-unfolding three len at leaves side
+unfolding three len nodeAt leaves side
 met-last = offset-last ten three (side 5 2 0) (side 3 0 0) (free-three 2 0 0 0) refl refl refl (omega arith) refl
 
 met-length : firstNo (questions ten three (Command.Join (side 5 3 0) (side 3 0 0))) ≡ 10
-unfolding three len at leaves side
+unfolding three len nodeAt leaves side
 met-length = offset-length ten three (side 5 3 0) (side 3 0 0) (free-three 3 0 0 0) refl refl refl (omega arith) refl
 
 met-inside : firstNo (questions ten three (Command.Join (side 5 1 2) (side 3 0 0))) ≡ 0
-unfolding three len at leaves side
+unfolding three len nodeAt leaves side
 met-inside =
     sides-inside ten three (side 5 1 2) (side 3 0 0) (free-three 1 2 0 0)
     (record { below = omega arith; within = omega arith; not-whole = λ e _. omega arith }) (plain-inside three (side 3 0 0) refl refl (omega arith))
 
 met-left : firstNo (questions ten three (Command.Join (side 5 1 3) (side 3 0 0))) ≡ 10
-unfolding three len at leaves side
+unfolding three len nodeAt leaves side
 met-left = left-outside ten three (side 5 1 3) (side 3 0 0) (free-three 1 3 0 0) (limit-high (omega arith))
 
 met-right : firstNo (questions ten three (Command.Join (side 5 0 0) (side 3 0 1))) ≡ 10
-unfolding three len at leaves side
+unfolding three len nodeAt leaves side
 met-right = right-outside ten three (side 5 0 0) (side 3 0 1) (free-three 0 0 0 1) (covering refl refl)
 
 met-few : firstNo (questions ten three (Command.Leaf 8)) ≡ 0

@@ -9,7 +9,7 @@ use lib.Dec.{eqb}
 use lib.ListN.{length}
 use lib.Seq.{append-snoc}
 use Rattle.pb.specs.Sum.{variable}
-use Rattle.totdb.specs.Nodes.{Node, leaf, join, at, leaves, len, output, outputs, range, limited, plainOr, known, leafOf, joined, sideLen, sideOutputs, sideLeaves}
+use Rattle.totdb.specs.Nodes.{Node, leaf, join, nodeAt, leaves, len, output, outputs, range, limited, plainOr, known, leafOf, joined, sideLen, sideOutputs, sideLeaves}
 use Rattle.totdb.specs.declared.Side.{Side}
 use Rattle.cert.specs.State.{State, start, Head}
 use Rattle.cert.specs.Sized.{Fit, Sized, Numbered}
@@ -208,26 +208,26 @@ build-stand v (Command.Close ∷ cs) t o k = build-stand v cs t o k
 
 -- ---- sides
 
-side-outputs : (t : List Node) (s : Side) (n : ℕ) → sideLen t s ≡ n → sideOutputs t s ≡ map (output (at t (s .node))) (range (s .offset + 1) n)
+side-outputs : (t : List Node) (s : Side) (n : ℕ) → sideLen t s ≡ n → sideOutputs t s ≡ map (output (nodeAt t (s .node))) (range (s .offset + 1) n)
 unfolding sideOutputs outputs
-side-outputs t s n a = ap {B = List ℕ} (λ (m : ℕ). map {B = ℕ} (output (at t (s .node))) (range (s .offset + 1) m)) a
+side-outputs t s n a = ap {B = List ℕ} (λ (m : ℕ). map {B = ℕ} (output (nodeAt t (s .node))) (range (s .offset + 1) m)) a
 
 side-of : (t : List Node) (s : Side) → SideIs t s (sideLen t s) (sideLeaves t s)
 side-of t s = by (s .offset) (s .limit) refl refl
   where
     by : (f k : ℕ) → s .offset ≡ f → s .limit ≡ k → SideIs t s (sideLen t s) (sideLeaves t s)
     by zero zero e g =
-        let a : sideLen t s ≡ len (at t (s .node)) = unfold sideLen in rw (e, g) (unfold limited in omega arith) in
-        let b : sideLeaves t s ≡ leaves (at t (s .node)) = unfold sideLeaves in rw (e, g) (unfold plainOr in refl) in
+        let a : sideLen t s ≡ len (nodeAt t (s .node)) = unfold sideLen in rw (e, g) (unfold limited in omega arith) in
+        let b : sideLeaves t s ≡ leaves (nodeAt t (s .node)) = unfold sideLeaves in rw (e, g) (unfold plainOr in refl) in
         rw (a, b) (plain-side e g)
     by (suc f) zero e g =
-        let a : sideLen t s ≡ len (at t (s .node)) - s .offset = unfold sideLen in rw g (unfold limited in refl) in
+        let a : sideLen t s ≡ len (nodeAt t (s .node)) - s .offset = unfold sideLen in rw g (unfold limited in refl) in
         let b : sideLeaves t s ≡ sideOutputs t s = unfold sideLeaves in rw (e, g) (unfold plainOr in refl) in
-        let c = side-outputs t s (len (at t (s .node)) - s .offset) a in
+        let c = side-outputs t s (len (nodeAt t (s .node)) - s .offset) a in
         rw (a, b, c) (to-the-end (omega arith) g)
     by f (suc k) e g =
         let a : sideLen t s ≡ s .limit = unfold sideLen in rw g (unfold limited in refl) in
-        let b : sideLeaves t s ≡ sideOutputs t s = unfold sideLeaves in window-or (s .offset) (s .limit) (leaves (at t (s .node))) (sideOutputs t s) (omega arith) in
+        let b : sideLeaves t s ≡ sideOutputs t s = unfold sideLeaves in window-or (s .offset) (s .limit) (leaves (nodeAt t (s .node))) (sideOutputs t s) (omega arith) in
         let c = side-outputs t s (s .limit) a in
         rw (a, b, c) (to-the-limit (omega arith))
 
@@ -251,7 +251,7 @@ nodes-of h capacity cs u a = record {
     numbered : Numbered (h .variable) (table h cs)
     numbered = rw (nodes-table h capacity cs u a) at (sound .numbered)
 
-    sized : (n : ℕ) → n < length (table h cs) → Fit (table h cs) n (at (table h cs) n)
+    sized : (n : ℕ) → n < length (table h cs) → Fit (table h cs) n (nodeAt (table h cs) n)
     sized = unfold Sized in rw (nodes-table h capacity cs u a) at (sound .sized)
 
     low : (l : ℕ) → l < 2 * h .variable → variable l < h .variable

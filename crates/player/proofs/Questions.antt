@@ -13,7 +13,7 @@ use Rattle.sizes.specs.Sizes.{mostHead, mostBytes, mostLeaves}
 use Rattle.pb.specs.Sum.{variable, neg}
 use Rattle.memo.proofs.Lists.{mem-flatMap, of-flatMap}
 use Rattle.record.specs.Record.{bytes}
-use Rattle.totdb.specs.Nodes.{Node, leaf, join, at, len, any, leafOf, isOver, known, taken, leafCount}
+use Rattle.totdb.specs.Nodes.{Node, leaf, join, nodeAt, len, any, leafOf, isOver, known, taken, leafCount}
 use Rattle.totdb.specs.declared.Side.{Side}
 use Rattle.cert.specs.State.{State, Head}
 use Rattle.player.specs.Player.{headFits, Question, ask, firstNo, sideFits, questions, act, accepted, refused, play}
@@ -164,13 +164,13 @@ leaves-answer t =
 pub side-answer : (t : List Node) (s : Side) → Answer (OffNode t s) (sideFits t s)
 unfolding sideFits
 side-answer t s =
-    let n : ℕ = len (at t (s .node)) in
+    let n : ℕ = len (nodeAt t (s .node)) in
     answer-map (⊎-elim (⊎-elim offset-high limit-high) (λ k. covering (k .0) (k .1))) apart
     (answer-both (answer-both (answer-below (s .offset) n) (answer-most (s .limit) (n - s .offset)))
     (answer-two (eqb (s .offset) 0) (eqb (s .limit) n) (answer-apart (s .offset) 0) (answer-apart (s .limit) n)))
   where
     apart : OffNode t s
-        → ((len (at t (s .node)) ≤ s .offset) ⊎ (len (at t (s .node)) - s .offset < s .limit)) ⊎ ((s .offset ≡ 0) × (s .limit ≡ len (at t (s .node))))
+        → ((len (nodeAt t (s .node)) ≤ s .offset) ⊎ (len (nodeAt t (s .node)) - s .offset < s .limit)) ⊎ ((s .offset ≡ 0) × (s .limit ≡ len (nodeAt t (s .node))))
     apart (offset-high l) = inl (inl l)
     apart (limit-high l) = inl (inr l)
     apart (covering e f) = inr (e, f)
@@ -312,7 +312,7 @@ module _ (h : Head) (capacity : ℕ) (s : State) where
   is-10 : {l r : Side} → No h capacity s (Join l r) 10 → OffNode t l ⊎ OffNode t r
   is-10 (no-10 p) = p
 
-  is-11 : {n v d : ℕ} → No h capacity s (Requested n v d) 11 → (v < 1) ⊎ (len (at t n) < v)
+  is-11 : {n v d : ℕ} → No h capacity s (Requested n v d) 11 → (v < 1) ⊎ (len (nodeAt t n) < v)
   is-11 (no-11 p) = p
 
   is-12 : {n v d : ℕ} → No h capacity s (Requested n v d) 12 → (d < 1) ⊎ (3 < d)
@@ -364,7 +364,7 @@ module _ (h : Head) (capacity : ℕ) (s : State) where
       not-put 6 (request-starts 6 (omega arith)) (not-put 7 (request-starts 7 (omega arith))
       (put 8 (omega arith) (answer-map no-8-request is-8-request (answer-below n (length t)))
       (not-put 9 (request-skips 9 (omega arith) (omega arith)) (not-put 10 (request-skips 10 (omega arith) (omega arith))
-      (put 11 (omega arith) (answer-map no-11 is-11 (answer-both (answer-most 1 v) (answer-most v (len (at t n)))))
+      (put 11 (omega arith) (answer-map no-11 is-11 (answer-both (answer-most 1 v) (answer-most v (len (nodeAt t n)))))
       (put 12 (omega arith) (answer-map no-12 is-12 (answer-both (answer-most 1 d) (answer-most d 3))) all-answered))))))
   first-answers Close =
       not-put 6 (close-skips 6 (omega arith)) (not-put 7 (close-skips 7 (omega arith)) (not-put 8 (close-skips 8 (omega arith)) (not-put 9 (close-skips 9 (omega arith))
@@ -505,11 +505,11 @@ module _ (h : Head) (t : List Node) (n v d : ℕ) (q : firstNo (questions h t (R
   unfolding bare
   request-there = let k : ¬ (length t ≤ n) = λ p. request-none 8 (omega arith) (no-8-request p) in omega (arith, k)
 
-  pub request-value : (1 ≤ v) × (v ≤ len (at t n))
+  pub request-value : (1 ≤ v) × (v ≤ len (nodeAt t n))
   unfolding bare
   request-value =
       let i : ¬ (v < 1) = λ p. request-none 11 (omega arith) (no-11 (inl p)) in
-      let j : ¬ (len (at t n) < v) = λ p. request-none 11 (omega arith) (no-11 (inr p)) in
+      let j : ¬ (len (nodeAt t n) < v) = λ p. request-none 11 (omega arith) (no-11 (inr p)) in
       (omega (arith, i), omega (arith, j))
 
   pub request-direction : (1 ≤ d) × (d ≤ 3)

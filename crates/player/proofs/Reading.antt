@@ -2,10 +2,10 @@
 use mathlib.Core.Path.{_≡_, refl, sym, _∙_, ap}
 use mathlib.Core.Bool.{Bool, true, false}
 use mathlib.Core.List.{List, [], _∷_, _++_, append-assoc}
-use Prim.Native.Nat.{ℕ, zero, suc, _+_, _-_, _*_, _≤_, _<_}
+use Prim.Native.Nat.{ℕ, zero, suc, _+_, _-_, _*_, _<_}
 use native.Mathlib.Omega.{arith}
 use lib.Dec.{ltb}
-use lib.ListN.{length, take, length-append}
+use lib.ListN.{length}
 use Rattle.number.specs.Number.{groups, Front, number, bad, above, readIn, read}
 use Rattle.player.specs.Script.{Next, command, refuse, get, arguments, readCommand}
 use Rattle.player.specs.declared.Command.{Command}

@@ -9,7 +9,7 @@ use borrow.Author.Tests.{eq-eqb}
 use lib.ListN.{length, length-append, length-map}
 use Rattle.pb.specs.Sum.{variable}
 use Rattle.memo.proofs.Lists.{not-mem}
-use Rattle.totdb.specs.Nodes.{Node, any, at, range, limited, plainOr, sideLeaves, sideLen, sideOutputs, outputs, output, len, leaves, join, known, leaf, leafOf, taken, joined}
+use Rattle.totdb.specs.Nodes.{Node, any, nodeAt, range, limited, plainOr, sideLeaves, sideLen, sideOutputs, outputs, output, len, leaves, join, known, leaf, leafOf, taken, joined}
 use Rattle.totdb.specs.declared.Side.{Side}
 use Rattle.totdb.proofs.Listed.{length-range}
 use Rattle.cert.specs.Definitions.{if, only-if, Direction}
@@ -29,8 +29,8 @@ use Rattle.player.proofs.Questions.{leaf-low, join-there, join-apart, j
 
 -- ---- tests
 
-any-none : (f : Node → Bool) (t : List Node) → any f t ≡ false → (n : ℕ) → n < length t → f (at t n) ≡ false
-unfolding any at
+any-none : (f : Node → Bool) (t : List Node) → any f t ≡ false → (n : ℕ) → n < length t → f (nodeAt t n) ≡ false
+unfolding any nodeAt
 any-none f [] e n h = absurd (omega arith)
 any-none f (a ∷ t) e zero h = by (f a) refl
   where
@@ -55,18 +55,18 @@ plainOr-length (suc f) k ls os e = e
 pub sideLeaves-length : (t : List Node) (s : Side) → length (sideLeaves t s) ≡ sideLen t s
 unfolding sideLeaves sideLen sideOutputs outputs len
 sideLeaves-length t s =
-    plainOr-length (s .offset) (s .limit) (leaves (at t (s .node))) (sideOutputs t s)
-    (length-map (range (s .offset + 1) (sideLen t s)) (output (at t (s .node))) ∙ length-range (s .offset + 1) (sideLen t s))
+    plainOr-length (s .offset) (s .limit) (leaves (nodeAt t (s .node))) (sideOutputs t s)
+    (length-map (range (s .offset + 1) (sideLen t s)) (output (nodeAt t (s .node))) ∙ length-range (s .offset + 1) (sideLen t s))
 
 limited-fits : (f k n : ℕ) → f < n → k ≤ n - f → f + limited k (n - f) ≤ n
 unfolding limited
 limited-fits f zero n h g = omega arith
 limited-fits f (suc k) n h g = omega arith
 
-side-in : (t : List Node) (s : Side) → (OffNode t s → ⊥) → (s .offset + sideLen t s ≤ len (at t (s .node))) × (s .offset < len (at t (s .node)))
+side-in : (t : List Node) (s : Side) → (OffNode t s → ⊥) → (s .offset + sideLen t s ≤ len (nodeAt t (s .node))) × (s .offset < len (nodeAt t (s .node)))
 unfolding sideLen
 side-in t s on =
-    let n : ℕ = len (at t (s .node)) in
+    let n : ℕ = len (nodeAt t (s .node)) in
     let i : ¬ (n ≤ s .offset) = λ l. on (offset-high l) in
     let j : ¬ (n - s .offset < s .limit) = λ l. on (limit-high l) in
     (limited-fits (s .offset) (s .limit) n (omega (arith, i)) (omega (arith, j)), omega (arith, i))
@@ -88,7 +88,7 @@ sound-same h s u e f p = record {
 
 -- ---- leaf
 
-pub leaf-new : (t : List Node) (l : ℕ) → known t l ≡ false → (n : ℕ) → n < length t → at t n ≡ leaf l → ⊥
+pub leaf-new : (t : List Node) (l : ℕ) → known t l ≡ false → (n : ℕ) → n < length t → nodeAt t n ≡ leaf l → ⊥
 unfolding known
 leaf-new t l e n h p = true≢false (sym (eq-eqb l l refl) ∙ sym (ap (leafOf l) p) ∙ any-none (leafOf l) t e n h)
 
@@ -118,10 +118,10 @@ pub record JoinFits (t : List Node) (l r : Side) : Type 0 where
   pub apart : l .node ≢ r .node
   pub left-free : taken t (l .node) ≡ false
   pub right-free : taken t (r .node) ≡ false
-  pub left-in : l .offset + sideLen t l ≤ len (at t (l .node))
-  pub right-in : r .offset + sideLen t r ≤ len (at t (r .node))
-  pub left-some : l .offset < len (at t (l .node))
-  pub right-some : r .offset < len (at t (r .node))
+  pub left-in : l .offset + sideLen t l ≤ len (nodeAt t (l .node))
+  pub right-in : r .offset + sideLen t r ≤ len (nodeAt t (r .node))
+  pub left-some : l .offset < len (nodeAt t (l .node))
+  pub right-some : r .offset < len (nodeAt t (r .node))
 
 pub join-fits : (h : Head) (t : List Node) (l r : Side) → firstNo (questions h t (Command.Join l r)) ≡ 0 → JoinFits t l r
 join-fits h t l r q =
@@ -173,7 +173,7 @@ sound-join h l r s f p =
 pub record RequestFits (t : List Node) (n v d : ℕ) : Type 0 where
   pub there : n < length t
   pub low : 1 ≤ v
-  pub high : v ≤ len (at t n)
+  pub high : v ≤ len (nodeAt t n)
   pub dir-low : 1 ≤ d
   pub dir-high : d ≤ 3
 

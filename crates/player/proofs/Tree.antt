@@ -12,7 +12,7 @@ use lib.Dec.{eqb}
 use lib.ListN.{length, length-append}
 use Rattle.sizes.specs.Sizes.{mostLeaves, width}
 use Rattle.pb.specs.Sum.{variable}
-use Rattle.totdb.specs.Nodes.{Node, taken, at, any, isOver, join, leaf, leafCount, len, known, leaves, joined, sideLeaves, sideLen}
+use Rattle.totdb.specs.Nodes.{Node, taken, nodeAt, any, isOver, join, leaf, leafCount, len, known, leaves, joined, sideLeaves, sideLen}
 use Rattle.totdb.specs.declared.Side.{Side}
 use Rattle.cert.specs.State.{State, start, requests, serve, Head}
 use Rattle.cert.proofs.Apart.{sized-ok}
@@ -43,7 +43,7 @@ sum-change (suc k) p f g l h = by (ℕ-discrete k p) (λ q. sum-change k p f g q
 
 -- ---- what is not under a join, weighed by w
 
-share-free : (w : Node → ℕ) (t : List Node) (n : ℕ) → taken t n ≡ false → share w t n ≡ w (at t n)
+share-free : (w : Node → ℕ) (t : List Node) (n : ℕ) → taken t n ≡ false → share w t n ≡ w (nodeAt t n)
 unfolding share
 share-free w t n e = rw (e, share)
 
@@ -55,15 +55,15 @@ over-no : (n : ℕ) (ls : List ℕ) (o : ℕ) (l r : Side) → l .node ≢ n →
 unfolding isOver
 over-no n ls o l r h g = rw (ne-eqb (l .node) n h, ne-eqb (r .node) n g)
 
-any-false : (f : Node → Bool) (t : List Node) → ((n : ℕ) → n < length t → f (at t n) ≡ false) → any f t ≡ false
-unfolding any at
+any-false : (f : Node → Bool) (t : List Node) → ((n : ℕ) → n < length t → f (nodeAt t n) ≡ false) → any f t ≡ false
+unfolding any nodeAt
 any-false f [] h = refl
 any-false f (a ∷ t) h = rw (h 0 (omega arith)) (any-false f t (λ n l. h (suc n) (omega arith)))
 
 -- No join stands over what is not there.
 taken-out : (t : List Node) → Ok t → (n : ℕ) → length t ≤ n → taken t n ≡ false
 unfolding taken Ok
-taken-out t ok n h = any-false (isOver n) t (λ i l. by i l (at t i) (ok i l))
+taken-out t ok n h = any-false (isOver n) t (λ i l. by i l (nodeAt t i) (ok i l))
   where
     by : (i : ℕ) → i < length t → (a : Node) → Below i a → isOver n a ≡ false
     by i l (leaf x) b = unfold isOver in refl
@@ -136,7 +136,7 @@ module _ (w : Node → ℕ) (t : List Node) (ls : List ℕ) (o : ℕ) (l r : Sid
           (share-over w t (join ls o l r) (l .node) (over-left ls o l r) ∙ sym mid-left)
       by (no e) = share-snoc w t (join ls o l r) n h (over-no n ls o l r e (λ q. g (sym q))) ∙ sym (mid-other n e)
 
-  pub free-join : free w (t ++ (join ls o l r ∷ [])) + w (at t (l .node)) + w (at t (r .node)) ≡ free w t + w (join ls o l r)
+  pub free-join : free w (t ++ (join ls o l r ∷ [])) + w (nodeAt t (l .node)) + w (nodeAt t (r .node)) ≡ free w t + w (join ls o l r)
   unfolding a free
   free-join =
       omega (
@@ -201,7 +201,7 @@ treed-join h l r s f p k =
     let g = free-join one t ls o l r ok (f .left) (f .right) (f .apart) (f .left-free) (f .right-free) in
     let z = free-last len t (join ls o l r) ok
     (over-no (length t) ls o l r (λ q. absurd (omega (arith, f .left))) (λ q. absurd (omega (arith, f .right)))) in
-    let ones : (one (at t (l .node)) ≡ 1) × (one (at t (r .node)) ≡ 1) × (one (join ls o l r) ≡ 1) = unfold one in (refl, refl, refl) in
+    let ones : (one (nodeAt t (l .node)) ≡ 1) × (one (nodeAt t (r .node)) ≡ 1) × (one (join ls o l r) ≡ 1) = unfold one in (refl, refl, refl) in
     record {
       few = omega (arith, k .few, leafCount-join t ls o l r);
       short = omega (arith, k .short, leafCount-join t ls o l r, e, long, f .left-in, f .right-in);

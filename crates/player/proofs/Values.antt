@@ -16,7 +16,7 @@ use Rattle.record.proofs.Bytes.{numbers-bytes}
 use Rattle.record.proofs.Decode.{Small}
 use Rattle.record.proofs.Sums.{terms-append}
 use Rattle.record.proofs.Tokens.{tokens-append}
-use Rattle.totdb.specs.Nodes.{Node, leaves, len, output, range, at, outputs}
+use Rattle.totdb.specs.Nodes.{Node, leaves, len, output, range, nodeAt, outputs}
 use Rattle.cert.specs.Definitions.{atLeastZero, realIf, realOnlyIf, realRecords, addSequence, total, Definition, nothing, axiom-of, stored, Key, ifPart, real, onlyIfPart, windowIf, windowOnlyIf, keyRecords, window-zero, window}
 use Rattle.cert.specs.Requests.{Clause, definition, defTokens, clauseTokens}
 use Rattle.cert.proofs.Apart.{range-mem}
@@ -275,21 +275,21 @@ module _ (b : ℕ) (at-step : Key → ℕ → ℕ) (low-steps : (k : Key) (i : �
     negs-below = subst (AllBelow b) (sym (map-twice (output x) neg (range (f + 1) m)))
         (below-map b (λ (v : ℕ). neg (output x v)) (range (f + 1) m) (λ v i. let k = inside v i in omega (arith, p .outs v (k .0) (k .1))))
 
-  pub keyRecords-below : (t : List Node) → ((n : ℕ) → n < length t → LowNode b (at t n)) → (k : Key) → KeyFits t k
+  pub keyRecords-below : (t : List Node) → ((n : ℕ) → n < length t → LowNode b (nodeAt t n)) → (k : Key) → KeyFits t k
       → AllBelow b (flatMap values (keyRecords at-step t k))
   unfolding keyRecords KeyFits
-  keyRecords-below t low (real n v) g = realRecords-below b (at t n) v (low n (g .0))
+  keyRecords-below t low (real n v) g = realRecords-below b (nodeAt t n) v (low n (g .0))
   keyRecords-below t low (window-zero n f m) g =
-      one-record b (atLeastZero (outputs (at t n) f m))
-      (zero-below b (outputs (at t n) f m) (omega arith) (outputs-below n (at t n) f m (low n (g .0)) (g .1)))
+      one-record b (atLeastZero (outputs (nodeAt t n) f m))
+      (zero-below b (outputs (nodeAt t n) f m) (omega arith) (outputs-below n (nodeAt t n) f m (low n (g .0)) (g .1)))
   keyRecords-below t low (window n f m) g =
       subst (AllBelow b) (sym
       (flatMap-append values
-      (flatMap {B = Record} (λ (v : ℕ). windowIf at-step n (at t n) f m v ∷ windowOnlyIf at-step n (at t n) f m v ∷ []) (range (f + 1) m))
-      (atLeastZero (map neg (outputs (at t n) f m)) ∷ [])))
-      (below-append b _ _ (windows-below n (at t n) f m (low n (g .0)) (g .1) (range (f + 1) m) (inside n (at t n) f m (low n (g .0)) (g .1)))
-      (one-record b (atLeastZero (map neg (outputs (at t n) f m)))
-      (zero-below b (map neg (outputs (at t n) f m)) (omega arith) (negs-below n (at t n) f m (low n (g .0)) (g .1)))))
+      (flatMap {B = Record} (λ (v : ℕ). windowIf at-step n (nodeAt t n) f m v ∷ windowOnlyIf at-step n (nodeAt t n) f m v ∷ []) (range (f + 1) m))
+      (atLeastZero (map neg (outputs (nodeAt t n) f m)) ∷ [])))
+      (below-append b _ _ (windows-below n (nodeAt t n) f m (low n (g .0)) (g .1) (range (f + 1) m) (inside n (nodeAt t n) f m (low n (g .0)) (g .1)))
+      (one-record b (atLeastZero (map neg (outputs (nodeAt t n) f m)))
+      (zero-below b (map neg (outputs (nodeAt t n) f m)) (omega arith) (negs-below n (nodeAt t n) f m (low n (g .0)) (g .1)))))
 
   defTokens-below : (d : Definition) → DefLow b d → TokensBelow b (defTokens at-step d)
   unfolding defTokens DefLow

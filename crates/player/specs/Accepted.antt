@@ -9,10 +9,9 @@ use lib.ListN.{length}
 use Rattle.pb.specs.Sum.{variable}
 use Rattle.record.specs.Record.{Record, clause}
 use Rattle.record.specs.Written.{WrittenFor, EachFor, Ended}
-use Rattle.totdb.specs.Nodes.{Node, leaf, join, at, leaves, len, output, range, sideLen, sideLeaves, any}
+use Rattle.totdb.specs.Nodes.{Node, leaf, join, nodeAt, leaves, len, output, range, sideLen, sideLeaves, any}
 use Rattle.totdb.specs.declared.Side.{Side}
 use Rattle.cert.specs.State.{Head}
-use Rattle.player.specs.Player.{played}
 use Rattle.player.specs.Script.{closes}
 use Rattle.player.specs.declared.Command.{Command}
 
@@ -55,22 +54,22 @@ joinLengths (join ls o l r ∷ t) = length ls + joinLengths t
 -- The length and the literals of a side. A plain one, with neither offset nor limit, gives its node's leaf list; a window its own outputs, as many as the
 -- limit, or as the offset leaves.
 pub data SideIs (t : List Node) (s : Side) : ℕ → List ℕ → Type 0 where
-  plain-side : s .offset ≡ 0 → s .limit ≡ 0 → SideIs t s (len (at t (s .node))) (leaves (at t (s .node)))
+  plain-side : s .offset ≡ 0 → s .limit ≡ 0 → SideIs t s (len (nodeAt t (s .node))) (leaves (nodeAt t (s .node)))
   to-the-end : 0 < s .offset → s .limit ≡ 0
-      → SideIs t s (len (at t (s .node)) - s .offset) (map (output (at t (s .node))) (range (s .offset + 1) (len (at t (s .node)) - s .offset)))
-  to-the-limit : 0 < s .limit → SideIs t s (s .limit) (map (output (at t (s .node))) (range (s .offset + 1) (s .limit)))
+      → SideIs t s (len (nodeAt t (s .node)) - s .offset) (map (output (nodeAt t (s .node))) (range (s .offset + 1) (len (nodeAt t (s .node)) - s .offset)))
+  to-the-limit : 0 < s .limit → SideIs t s (s .limit) (map (output (nodeAt t (s .node))) (range (s .offset + 1) (s .limit)))
 
 pub record NodesOf (h : Head) (cs : List Command) (t : List Node) : Type 0 where
   -- One node for each of these commands, in their order. A leaf literal seen before gets no new one.
   pub made-by : map {B = Command} makerOf t ≡ makers cs
   -- Question 6.
-  pub leaves-low : (n l : ℕ) → n < length t → at t n ≡ leaf l → variable l < h .variable
+  pub leaves-low : (n l : ℕ) → n < length t → nodeAt t n ≡ leaf l → variable l < h .variable
   -- A leaf's literal is its one output and its leaf list.
   pub leaves-own : (l : ℕ) → (leaves (leaf l) ≡ l ∷ []) × (output (leaf l) 1 ≡ l)
   pub sides : (s : Side) → SideIs t s (sideLen t s) (sideLeaves t s)
   -- A join's length is the sum of its sides' lengths. Its leaf list is the left side's literals, then the right's.
-  pub lengths : (n : ℕ) (ls : List ℕ) (o : ℕ) (l r : Side) → n < length t → at t n ≡ join ls o l r → length ls ≡ sideLen t l + sideLen t r
-  pub leaf-lists : (n : ℕ) (ls : List ℕ) (o : ℕ) (l r : Side) → n < length t → at t n ≡ join ls o l r → ls ≡ sideLeaves t l ++ sideLeaves t r
+  pub lengths : (n : ℕ) (ls : List ℕ) (o : ℕ) (l r : Side) → n < length t → nodeAt t n ≡ join ls o l r → length ls ≡ sideLen t l + sideLen t r
+  pub leaf-lists : (n : ℕ) (ls : List ℕ) (o : ℕ) (l r : Side) → n < length t → nodeAt t n ≡ join ls o l r → ls ≡ sideLeaves t l ++ sideLeaves t r
   -- A join reserves all its outputs when made, on the next unused variables.
   pub outputs-next : joinOutputs t ≡ map (λ (v : ℕ). 2 * v) (range (h .variable) (joinLengths t))
 

@@ -5,7 +5,7 @@ use mathlib.Core.List.{List, List·Memᴰ}
 use Prim.Native.Nat.{ℕ, zero, suc, _+_, _*_, _≤_, _<_}
 use lib.ListN.{length}
 use Rattle.sizes.specs.Sizes.{mostLeaves, width}
-use Rattle.totdb.specs.Nodes.{Node, join, at, len, leafCount, taken}
+use Rattle.totdb.specs.Nodes.{Node, join, nodeAt, len, leafCount, taken}
 use Rattle.totdb.specs.declared.Side.{Side}
 use Rattle.cert.specs.Counted.{Counted}
 use Rattle.cert.specs.Requests.{Request, Right}
@@ -18,7 +18,7 @@ pub record Sound (h : Head) (s : State) : Type 0 where
   pub sized : Sized (s .nodes)
   pub numbered : Numbered (h .variable) (s .nodes)
   pub high : h .variable ≤ s .next-variable
-  pub after : (n : ℕ) (m : List ℕ) (o : ℕ) (l r : Side) → n < length (s .nodes) → at (s .nodes) n ≡ join m o l r → o + length m ≤ s .next-variable
+  pub after : (n : ℕ) (m : List ℕ) (o : ℕ) (l r : Side) → n < length (s .nodes) → nodeAt (s .nodes) n ≡ join m o l r → o + length m ≤ s .next-variable
 
 -- The sum of f below k.
 unfoldable pub sumTo : ℕ → (ℕ → ℕ) → ℕ
@@ -27,7 +27,7 @@ sumTo (suc k) f = sumTo k f + f k
 
 -- What is not under a join, weighed by w: of node n, and of all.
 unfoldable pub share : (Node → ℕ) → List Node → ℕ → ℕ
-share w t n = elim (taken t n) [ true ↦ 0 | false ↦ w (at t n) ]
+share w t n = elim (taken t n) [ true ↦ 0 | false ↦ w (nodeAt t n) ]
 
 unfoldable pub free : (Node → ℕ) → List Node → ℕ
 unfolding sumTo share
@@ -40,7 +40,7 @@ one a = 1
 pub record Treed (h : Head) (s : State) : Type 0 where
   pub few : leafCount (s .nodes) ≤ mostLeaves
   pub short : free len (s .nodes) ≤ leafCount (s .nodes)
-  pub each : (n : ℕ) → n < length (s .nodes) → len (at (s .nodes) n) ≤ width
+  pub each : (n : ℕ) → n < length (s .nodes) → len (nodeAt (s .nodes) n) ≤ width
   pub low : s .next-variable + width * free one (s .nodes) ≤ h .variable + width * leafCount (s .nodes)
   pub paired : length (s .nodes) + free one (s .nodes) ≡ 2 * leafCount (s .nodes)
 

@@ -10,7 +10,7 @@ use Rattle.number.specs.Number.{readRefusal}
 use Rattle.number.specs.declared.Reading.the-variants.{Bad}
 use Rattle.pb.specs.Sum.{variable, neg}
 use Rattle.record.specs.Record.{deletion, bytes, steps, clauses}
-use Rattle.totdb.specs.Nodes.{Node, leaf, at, len, joined, known, leafCount, taken}
+use Rattle.totdb.specs.Nodes.{Node, leaf, nodeAt, len, joined, known, leafCount, taken}
 use Rattle.totdb.specs.declared.Side.{Side}
 use Rattle.cert.specs.State.{State, start, storedSteps, serve, requests, Head}
 use Rattle.player.specs.Script.{Script, script, headless, readScript}
@@ -33,12 +33,12 @@ abbrev pub fitsOver : Side → ℕ → Bool
 fitsOver s n = ltb (s .offset) n && leb (s .limit) (n - s .offset) && notb (eqb (s .offset) 0 && eqb (s .limit) n)
 
 unfoldable pub sideFits : List Node → Side → Bool
-unfolding at len
-sideFits t s = fitsOver s (len (at t (s .node)))
+unfolding nodeAt len
+sideFits t s = fitsOver s (len (nodeAt t (s .node)))
 
 -- Questions 6 to 12.
 unfoldable pub questions : Head → List Node → Command → List Question
-unfolding variable neg known taken leafCount at len sideFits
+unfolding variable neg known taken leafCount nodeAt len sideFits
 questions h t (Command.Leaf l) =
     ask 6 (ltb (variable l) (h .variable))
     ∷ ask 7 (known t l || (notb (known t (neg l)) && ltb (leafCount t) mostLeaves))
@@ -50,7 +50,7 @@ questions h t (Command.Join l r) =
     ∷ []
 questions h t (Command.Request n v d) =
     ask 8 (ltb n (length t))
-    ∷ ask 11 (leb 1 v && leb v (len (at t n)))
+    ∷ ask 11 (leb 1 v && leb v (len (nodeAt t n)))
     ∷ ask 12 (leb 1 d && leb d 3)
     ∷ []
 questions h t Command.Close = []

@@ -21,8 +21,11 @@ unfoldable pub get : List ℕ → (ℕ → List ℕ → Next) → Next
 unfolding readIn above
 get bs f = elim (read bs) [ number x rest ↦ f x rest | bad ↦ refuse (readRefusal Bad) ]
 
+abbrev pub getThree : List ℕ → (ℕ → ℕ → ℕ → List ℕ → Next) → Next
+getThree bs g = get bs (λ a r. get r (λ b r. get r (λ c r. g a b c r)))
+
 abbrev pub getSide : List ℕ → (Side → List ℕ → Next) → Next
-getSide bs g = get bs (λ n r. get r (λ f r. get r (λ k r. g (record { node = n; offset = f; limit = k }) r)))
+getSide bs g = getThree bs (λ n f k r. g (record { node = n; offset = f; limit = k }) r)
 
 -- Question 5, then the numbers that follow the code.
 unfoldable pub arguments : ℕ → List ℕ → Next
@@ -30,7 +33,7 @@ unfolding get
 arguments zero bs = refuse 5
 arguments (suc zero) bs = get bs (λ l r. command (Leaf l) r)
 arguments (suc (suc zero)) bs = getSide bs (λ l r. getSide r (λ m r. command (Join l m) r))
-arguments (suc (suc (suc zero))) bs = get bs (λ n r. get r (λ v r. get r (λ d r. command (Request n v d) r)))
+arguments (suc (suc (suc zero))) bs = getThree bs (λ n v d r. command (Request n v d) r)
 arguments (suc (suc (suc (suc zero)))) bs = command Close bs
 arguments (suc (suc (suc (suc (suc c))))) bs = refuse 5
 

@@ -9,7 +9,7 @@ use lib.ListN.{length}
 use Rattle.number.specs.Number.{encode}
 use Rattle.pb.specs.Sum.{variable, neg}
 use Rattle.record.specs.Record.{bytes}
-use Rattle.totdb.specs.Nodes.{Node, leaf, join, at, len}
+use Rattle.totdb.specs.Nodes.{Node, leaf, join, nodeAt, len}
 use Rattle.totdb.specs.declared.Side.{Side}
 use Rattle.cert.specs.State.{State, start, Head}
 use Rattle.player.specs.Player.{act}
@@ -52,9 +52,9 @@ joinedNodes t = flatMap sideNodes t
 
 -- Question 10, of one side: offset not below the length, limit past the length less offset, or offset 0 with limit equal to the length.
 pub data OffNode (t : List Node) (s : Side) : Type 0 where
-  offset-high : len (at t (s .node)) ≤ s .offset → OffNode t s
-  limit-high : len (at t (s .node)) - s .offset < s .limit → OffNode t s
-  covering : s .offset ≡ 0 → s .limit ≡ len (at t (s .node)) → OffNode t s
+  offset-high : len (nodeAt t (s .node)) ≤ s .offset → OffNode t s
+  limit-high : len (nodeAt t (s .node)) - s .offset < s .limit → OffNode t s
+  covering : s .offset ≡ 0 → s .limit ≡ len (nodeAt t (s .node)) → OffNode t s
 
 -- In the state s, the command is answered no to the question of this number. Question 14 is of the state after it.
 pub data No (h : Head) (capacity : ℕ) (s : State) : Command → ℕ → Type 0 where
@@ -72,7 +72,7 @@ pub data No (h : Head) (capacity : ℕ) (s : State) : Command → ℕ → Type 0
   -- Join: offset below the length, limit at most the length less offset, and not offset 0 with limit equal to the length?
   no-10 : {l r : Side} → OffNode (s .nodes) l ⊎ OffNode (s .nodes) r → No h capacity s (Join l r) 10
   -- Request: value 1 to the length?
-  no-11 : {n v d : ℕ} → (v < 1) ⊎ (len (at (s .nodes) n) < v) → No h capacity s (Requested n v d) 11
+  no-11 : {n v d : ℕ} → (v < 1) ⊎ (len (nodeAt (s .nodes) n) < v) → No h capacity s (Requested n v d) 11
   -- Request: direction 1 to 3?
   no-12 : {n v d : ℕ} → (d < 1) ⊎ (3 < d) → No h capacity s (Requested n v d) 12
   -- Does all the command writes fit in the log?

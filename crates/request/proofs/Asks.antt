@@ -8,7 +8,7 @@ use borrow.Author.Tests.{eqb-true, eqb-false}
 use lib.Dec.{eqb}
 use lib.ListN.{length, getD}
 use Rattle.sizes.specs.Sizes.{width, row, kindColumn, kindAt, storeAt}
-use Rattle.totdb.specs.Nodes.{Node, leaf, join, at, len}
+use Rattle.totdb.specs.Nodes.{Node, leaf, join, nodeAt, len}
 use Rattle.totdb.specs.declared.Side.{Side}
 use Rattle.cert.specs.Definitions.{Direction}
 use Rattle.cert.specs.Requests.{request, needs, needsAt, below, named, Right}
@@ -28,19 +28,19 @@ module _ {ns : List ℕ} {t : List Node} (tb : Table ns t) (n : ℕ) (h : n < le
   kind-is : getD ns (kindAt n) 0 ≡ getD (rowOf ns n) kindColumn 0
   kind-is = in-row ns n kindColumn (omega arith)
 
-  pub kind-leaf : eqb (getD ns (kindAt n) 0) 0 ≡ true → (a : ℕ) × (at t n ≡ leaf a)
+  pub kind-leaf : eqb (getD ns (kindAt n) 0) 0 ≡ true → (a : ℕ) × (nodeAt t n ≡ leaf a)
   unfolding KindOf
-  kind-leaf z = by (at t n) refl (tb .has .row n h .kind)
+  kind-leaf z = by (nodeAt t n) refl (tb .has .row n h .kind)
     where
-      by : (x : Node) → at t n ≡ x → KindOf (rowOf ns n) t x → (a : ℕ) × (at t n ≡ leaf a)
+      by : (x : Node) → nodeAt t n ≡ x → KindOf (rowOf ns n) t x → (a : ℕ) × (nodeAt t n ≡ leaf a)
       by (leaf a) e q = (a, e)
       by (join m o l r) e q = absurd (omega (arith, eqb-true (getD ns (kindAt n) 0) 0 z, kind-is, q .0))
 
-  pub kind-join : eqb (getD ns (kindAt n) 0) 0 ≡ false → (ls : List ℕ) × (o : ℕ) × (l : Side) × (r : Side) × (at t n ≡ join ls o l r)
+  pub kind-join : eqb (getD ns (kindAt n) 0) 0 ≡ false → (ls : List ℕ) × (o : ℕ) × (l : Side) × (r : Side) × (nodeAt t n ≡ join ls o l r)
   unfolding KindOf
-  kind-join z = by (at t n) refl (tb .has .row n h .kind)
+  kind-join z = by (nodeAt t n) refl (tb .has .row n h .kind)
     where
-      by : (x : Node) → at t n ≡ x → KindOf (rowOf ns n) t x → (ls : List ℕ) × (o : ℕ) × (l : Side) × (r : Side) × (at t n ≡ join ls o l r)
+      by : (x : Node) → nodeAt t n ≡ x → KindOf (rowOf ns n) t x → (ls : List ℕ) × (o : ℕ) × (l : Side) × (r : Side) × (nodeAt t n ≡ join ls o l r)
       by (leaf a) e q = absurd (eqb-false (getD ns (kindAt n) 0) 0 z (kind-is ∙ q))
       by (join m o l r) e q = (m, o, l, r, e)
 
@@ -85,7 +85,7 @@ module _ {t : List Node} (bd : Bounded t) where
     pub asked-low : v ≤ width
     asked-low = omega (arith, w .within, bd .short n (w .there))
 
-    pub asked-flagged : IsJoin (at t n) → Flagged t n v
+    pub asked-flagged : IsJoin (nodeAt t n) → Flagged t n v
     asked-flagged i = record { there = w .there; join = i; above = w .above; within = asked-low }
 
     pub asked-room : (store : List ℕ) → storeAt (length t) ≤ length store → HeldRoom store n v

@@ -10,9 +10,9 @@ use borrow.Author.Tests.{eqb-true, eqb-false, leb-true, leb-false}
 use lib.Dec.{eqb, leb}
 use lib.ListN.{length, getD, set, length-set}
 use lib.Seq.{getD-set-same, getD-set-other, take-set-le}
-use Rattle.sizes.specs.Sizes.{width, trail, heldAt}
+use Rattle.sizes.specs.Sizes.{width, marksAt, stepAt, clausesAt, heldAt}
 use Rattle.memo.specs.Visit.{decMemᴰ}
-use Rattle.totdb.specs.Nodes.{Node, at}
+use Rattle.totdb.specs.Nodes.{Node, nodeAt}
 use Rattle.cert.specs.Definitions.{Direction, if, only-if}
 use Rattle.cert.specs.Equal.{request-dec}
 use Rattle.cert.specs.Requests.{Request, request}
@@ -185,7 +185,7 @@ some-held h n v k = by (decMemᴰ request-dec (request n v if) h) (decMemᴰ req
 -- A value of a join, which has a place.
 pub record Flagged (t : List Node) (n v : ℕ) : Type 0 where
   pub there : n < length t
-  pub join : IsJoin (at t n)
+  pub join : IsJoin (nodeAt t n)
   pub above : 1 ≤ v
   pub within : v ≤ width
 
@@ -200,7 +200,7 @@ module _ {t : List Node} (bd : Bounded t) (n v : ℕ) (b : Bool) (f : Flagged t 
     holds-more : HeldFlags t (held (heldAt n v) (m .store)) (s .held ++ (request n v (direction b) ∷ []))
     holds-more = record { is = λ i w there inner low high. by i w there inner low high (ℕ-discrete i n) (ℕ-discrete w v) }
       where
-        by : (i w : ℕ) → i < length t → IsJoin (at t i) → 1 ≤ w → w ≤ width → Dec (i ≡ n) → Dec (w ≡ v)
+        by : (i w : ℕ) → i < length t → IsJoin (nodeAt t i) → 1 ≤ w → w ≤ width → Dec (i ≡ n) → Dec (w ≡ v)
             → getD (held (heldAt n v) (m .store)) (heldAt i w) 0 ≡ heldOf (s .held ++ (request n v (direction b) ∷ [])) i w
         by i w there inner low high (yes p) (yes q) =
             rw (p, q)
@@ -214,7 +214,10 @@ module _ {t : List Node} (bd : Bounded t) (n v : ℕ) (b : Bool) (f : Flagged t 
             elsewhere (heldAt i w) (λ z. p (omega (arith, f .within, f .above))) ∙ x .stores .holds .is i w there inner low high
             ∙ sym (held-other (s .held) i w n v (direction b) (λ e g. p e))
 
-    stores-more : Stores t (memory (held (heldAt n v) (m .store)) (m .log) (m .out)) (hold (request n v (direction b)) s)
+    same-marks : getD (held (heldAt n v) (m .store)) marksAt 0 ≡ getD (m .store) marksAt 0
+    same-marks = elsewhere marksAt (λ z. absurd (omega arith))
+
+    stores-more : Stores t (memory (held (heldAt n v) (m .store)) (m .log) (m .at)) (hold (request n v (direction b)) s)
     unfolding hold
     stores-more = record {
       room = omega (arith, x .stores .room, length-set (m .store) (heldAt n v) (heldWith b (getD (m .store) (heldAt n v) 0)));
@@ -223,19 +226,24 @@ module _ {t : List Node} (bd : Bounded t) (n v : ℕ) (b : Bool) (f : Flagged t 
             elsewhere (slot t k) (λ z. absurd (omega (arith, r .above, r .below, f .above, f .within))) ∙ x .stores .firsts .is k u;
       };
       trail = record {
-        count = x .stores .trail .count;
-        is = take-set-le (m .out .marks) (m .store) (heldAt n v) (heldWith b (getD (m .store) (heldAt n v) 0)) (omega (arith, few-marks x))
-            ∙ x .stores .trail .is;
+        count = same-marks ∙ x .stores .trail .count;
+        is = rw same-marks
+            (take-set-le (getD (m .store) marksAt 0) (m .store) (heldAt n v) (heldWith b (getD (m .store) (heldAt n v) 0)) (omega (arith, few-marks x))
+            ∙ x .stores .trail .is);
+      };
+      counters = record {
+        step = elsewhere stepAt (λ z. absurd (omega arith)) ∙ x .stores .counters .step;
+        clauses = elsewhere clausesAt (λ z. absurd (omega arith)) ∙ x .stores .counters .clauses;
       };
       holds = holds-more;
       blank = record { is = λ i l. elsewhere i (λ z. absurd (omega (arith, f .there, f .within))) ∙ x .stores .blank .is i l };
     }
 
-    exact-hold : Exact c t (memory (held (heldAt n v) (m .store)) (m .log) (m .out)) (hold (request n v (direction b)) s)
+    exact-hold : Exact c t (memory (held (heldAt n v) (m .store)) (m .log) (m .at)) (hold (request n v (direction b)) s)
     unfolding hold keys
     exact-hold = record {
       small = x .small;
-      logged = record { size = x .logged .size; is = x .logged .is; step = x .logged .step; clauses = x .logged .clauses };
+      logged = record { size = x .logged .size; is = x .logged .is };
       stores = stores-more;
       consistent = record {
         one = x .consistent .one;
@@ -250,7 +258,7 @@ module _ {t : List Node} (bd : Bounded t) (n v : ℕ) (b : Bool) (f : Flagged t 
     }
 
   represents-hold : {c : ℕ} {m : Memory} {s : State} → Represents c t m s
-      → Represents c t (memory (held (heldAt n v) (m .store)) (m .log) (m .out)) (hold (request n v (direction b)) s)
+      → Represents c t (memory (held (heldAt n v) (m .store)) (m .log) (m .at)) (hold (request n v (direction b)) s)
   represents-hold (exact x) = exact (exact-hold x)
   represents-hold {m = m} (over x) = over (record {
     size = x .size;
@@ -262,7 +270,7 @@ module _ {t : List Node} (bd : Bounded t) (n v : ℕ) (b : Bool) (f : Flagged t 
 pub sims-hold : {ns : List ℕ} {P : List Node → State → Type 0} {g : List Node → State → State} {m n : Memory} {store : List ℕ} (i v : ℕ) (b : Bool)
     → ((t : List Node) (s : State) → Table ns t → P t s → Flagged t i v)
     → store ≡ set (n .store) (heldAt i v) (heldWith b (getD (n .store) (heldAt i v) 0))
-    → Simulates ns P g m n → Simulates ns P (λ t s. hold (request i v (direction b)) (g t s)) m (memory store (n .log) (n .out))
+    → Simulates ns P g m n → Simulates ns P (λ t s. hold (request i v (direction b)) (g t s)) m (memory store (n .log) (n .at))
 sims-hold i v b q e a = record {
   does = λ c t s y p x. rw e (represents-hold (y .bounded) i v b (q t s y p) (a .does c t s y p x));
   onward = a .onward;
@@ -270,11 +278,11 @@ sims-hold i v b q e a = record {
 
 -- ---- a leaf, whose requests have no place
 
-module _ {t : List Node} (n v : ℕ) (d : Direction) (leaf-at : IsJoin (at t n) → ⊥) where
+module _ {t : List Node} (n v : ℕ) (d : Direction) (leaf-at : IsJoin (nodeAt t n) → ⊥) where
   holds-leaf : {store : List ℕ} {h : List Request} → HeldFlags t store h → HeldFlags t store (h ++ (request n v d ∷ []))
   holds-leaf {h = h} x = record {
     is = λ i w there inner low high.
-        x .is i w there inner low high ∙ sym (held-other h i w n v d (λ e g. leaf-at (subst (λ (k : ℕ). IsJoin (at t k)) e inner)));
+        x .is i w there inner low high ∙ sym (held-other h i w n v d (λ e g. leaf-at (subst (λ (k : ℕ). IsJoin (nodeAt t k)) e inner)));
   }
 
   pub represents-leaf : {c : ℕ} {m : Memory} {s : State} → Represents c t m s → Represents c t m (hold (request n v d) s)
@@ -282,11 +290,12 @@ module _ {t : List Node} (n v : ℕ) (d : Direction) (leaf-at : IsJoin (at t n) 
   represents-leaf (over x) = over (record { size = x .size; past = x .past; room = x .room; more = x .more })
   represents-leaf (exact x) = exact (record {
     small = x .small;
-    logged = record { size = x .logged .size; is = x .logged .is; step = x .logged .step; clauses = x .logged .clauses };
+    logged = record { size = x .logged .size; is = x .logged .is };
     stores = record {
       room = x .stores .room;
       firsts = x .stores .firsts;
       trail = x .stores .trail;
+      counters = record { step = x .stores .counters .step; clauses = x .stores .counters .clauses };
       holds = holds-leaf (x .stores .holds);
       blank = x .stores .blank;
     };

@@ -6,7 +6,7 @@ use Prim.Native.Nat.{ℕ}
 use native.Mathlib.Omega.{arith}
 use Rattle.memo.specs.Visit.{each, batch, fresh, decMemᴰ}
 use Rattle.memo.proofs.Unrolled.{ask-there, ask-new}
-use Rattle.totdb.specs.Nodes.{Node, leaf, at}
+use Rattle.totdb.specs.Nodes.{Node, leaf, nodeAt}
 use Rattle.cert.specs.Definitions.{Direction, if, only-if}
 use Rattle.cert.specs.Equal.{request-dec}
 use Rattle.cert.specs.Requests.{Request, request, needs, needsAt, clausesOf, clausesAt, Right}
@@ -29,7 +29,7 @@ module _ (t : List Node) (sized : Sized t) where
 
   -- ---- a leaf
 
-  module _ (n v : ℕ) (d : Direction) (a : ℕ) (is : at t n ≡ leaf a) where
+  module _ (n v : ℕ) (d : Direction) (a : ℕ) (is : nodeAt t n ≡ leaf a) where
     no-needs : needs t (request n v d) ≡ []
     unfolding needs needsAt
     no-needs = rw is
@@ -113,7 +113,7 @@ module _ (t : List Node) (sized : Sized t) where
           (fresh-new y [] (s .held) j ∙ ap {B = List Request} (λ (l : List Request). y ∷ l) none))
 
 -- Both directions of a leaf, each alone.
-pub serve-leaf : (t : List Node) → Sized t → (n v a : ℕ) → at t n ≡ leaf a → ((d : Direction) → Right t (request n v d)) → (s : State)
+pub serve-leaf : (t : List Node) → Sized t → (n v a : ℕ) → nodeAt t n ≡ leaf a → ((d : Direction) → Right t (request n v d)) → (s : State)
     → serve t (request n v if ∷ request n v only-if ∷ []) s ≡ askFor t (request n v only-if) (askFor t (request n v if) s)
 serve-leaf t sized n v a is g s = by (decMemᴰ request-dec (request n v if) (s .held)) (decMemᴰ request-dec (request n v only-if) (s .held))
   where

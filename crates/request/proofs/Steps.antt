@@ -12,7 +12,7 @@ use lib.ListN.{length, getD, set}
 use Rattle.sizes.specs.Sizes.{kindAt, heldAt}
 use Rattle.memo.specs.Visit.{each, decMemᴰ}
 use Rattle.memo.proofs.Unrolled.{each-append}
-use Rattle.totdb.specs.Nodes.{Node, leaf, at, range}
+use Rattle.totdb.specs.Nodes.{Node, leaf, nodeAt, range}
 use Rattle.cert.specs.Definitions.{Direction, if, only-if}
 use Rattle.cert.specs.Equal.{request-dec}
 use Rattle.cert.specs.Requests.{request, needs, below, named, clausesOf}
@@ -78,7 +78,7 @@ module _ {ns : List ℕ} where
   pub write-done : {m n : Memory} {store : List ℕ} (x : Join) (v : ℕ) (b : Bool)
       → store ≡ set (n .store) (heldAt (x .node) v) (heldWith b (getD (n .store) (heldAt (x .node) v) 0))
       → Simulates ns (λ t s. JoinIn t x v) (λ t s. each (writeClause t) (clausesOf t (request (x .node) v (direction b))) s) m n
-      → Writes ns x v (direction b) m (memory store (n .log) (n .out))
+      → Writes ns x v (direction b) m (memory store (n .log) (n .at))
   unfolding writeRequest
   write-done x v b e a = sims-hold (x .node) v b (λ t s y w. join-flagged (y .bounded) w) e a
 
@@ -86,7 +86,7 @@ module _ {ns : List ℕ} where
 
   module _ {n v : ℕ} where
     -- A leaf: whatever is held, nothing is written.
-    leaf-represents : {c : ℕ} {t : List Node} {m : Memory} {s : State} (d : Direction) → Table ns t → RequestIn t n v → (a : ℕ) → at t n ≡ leaf a
+    leaf-represents : {c : ℕ} {t : List Node} {m : Memory} {s : State} (d : Direction) → Table ns t → RequestIn t n v → (a : ℕ) → nodeAt t n ≡ leaf a
         → Represents c t m s → Represents c t m (askFor t (request n v d) s)
     leaf-represents {c} {t} {m} {s} d y w a e x = by (decMemᴰ request-dec (request n v d) (s .held))
       where
@@ -109,14 +109,14 @@ module _ {ns : List ℕ} where
           let f = asked-flagged (y .bounded) w (join-is-join (kind-join y n (w .there) g .4)) in
           x .stores .holds .is n v (f .there) (f .join) (f .above) (f .within)
 
-      pub node-held : m .out .at ≤ length (m .log) → eqb (getD ns (kindAt n) 0) 0 ≡ false → isHeld b (getD (m .store) (heldAt n v) 0) ≡ true
+      pub node-held : m .at ≤ length (m .log) → eqb (getD ns (kindAt n) 0) 0 ≡ false → isHeld b (getD (m .store) (heldAt n v) 0) ≡ true
           → Asks ns n v (direction b) m m
       node-held room g z = sims-open room stays
           (λ c t s y w x.
           rw (asked-held t (y .bounded .sized) (request n v (direction b)) (asked-right (y .bounded) w (direction b)) s
           (held-in (s .held) n v b (rw (held-is g y w x) at z))) (exact x))
 
-      pub node-join : {a k : Memory} {x : Join} → x ≡ readJoin ns n → m .out .at ≤ length (m .log) → eqb (getD ns (kindAt n) 0) 0 ≡ false
+      pub node-join : {a k : Memory} {x : Join} → x ≡ readJoin ns n → m .at ≤ length (m .log) → eqb (getD ns (kindAt n) 0) 0 ≡ false
           → isHeld b (getD (m .store) (heldAt n v) 0) ≡ false → Needs ns x v (direction b) m a → Writes ns x v (direction b) a k
           → Asks ns n v (direction b) m k
       node-join {x = x} q room g z a k = sims-open room (onward-then (a .onward) (k .onward))
@@ -132,9 +132,9 @@ module _ {ns : List ℕ} where
 
       -- The number of a request has its direction, whatever the log and the node.
       pub held-asks : isHeld b (getD (m .store) (heldAt n v) 0) ≡ true → Asks ns n v (direction b) m m
-      held-asks h = by (decLe (m .out .at) (length (m .log))) (eqb (getD ns (kindAt n) 0) 0) refl
+      held-asks h = by (decLe (m .at) (length (m .log))) (eqb (getD ns (kindAt n) 0) 0) refl
         where
-          by : Dec (m .out .at ≤ length (m .log)) → (k : Bool) → eqb (getD ns (kindAt n) 0) 0 ≡ k → Asks ns n v (direction b) m m
+          by : Dec (m .at ≤ length (m .log)) → (k : Bool) → eqb (getD ns (kindAt n) 0) 0 ≡ k → Asks ns n v (direction b) m m
           by (yes room) true g = node-leaf (direction b) g
           by (yes room) false g = node-held room g h
           by (no room) k g = sims-full (ask-grows (request n v (direction b))) (omega arith)
@@ -147,7 +147,7 @@ module _ {ns : List ℕ} where
         sym (serve-leaf t (y .bounded .sized) n v (q .0) (q .1) (λ d. asked-right (y .bounded) w d) s))
         (sims-then (node-leaf if g) (node-leaf only-if g))
 
-    pub single-done : {m b : Memory} → m .out .at ≤ length (m .log) → eqb (getD ns (kindAt n) 0) 0 ≡ false
+    pub single-done : {m b : Memory} → m .at ≤ length (m .log) → eqb (getD ns (kindAt n) 0) 0 ≡ false
         → (getD (m .store) (heldAt n v) 0 ≡ 0 → ⊥) → Singly ns n v m b → Serves ns n v m b
     single-done {m} {b} room g z a = sims-open room (a .onward)
         (λ c t s y w x.
@@ -158,7 +158,7 @@ module _ {ns : List ℕ} where
         (a .does c t s y w (exact x)))
         (some-held (s .held) n v (λ e. z (held-is true g y w x ∙ e))))
 
-    pub once-done : {m b : Memory} {x : Join} → x ≡ readJoin ns n → m .out .at ≤ length (m .log) → eqb (getD ns (kindAt n) 0) 0 ≡ false
+    pub once-done : {m b : Memory} {x : Join} → x ≡ readJoin ns n → m .at ≤ length (m .log) → eqb (getD ns (kindAt n) 0) 0 ≡ false
         → getD (m .store) (heldAt n v) 0 ≡ 0
         → Simulates ns (λ t s. JoinIn t x v) (λ t s. writeBoth t (x .node) v s) m b → Serves ns n v m b
     once-done {x = x} q room g z a = sims-open room (a .onward)

@@ -6,7 +6,7 @@ use lib.Dec.{eqb, leb}
 use lib.ListN.{length}
 use Rattle.sizes.specs.Sizes.{mostNodes, width, storeRow, storeAt}
 use Rattle.memo.specs.Visit.{ask, each}
-use Rattle.totdb.specs.Nodes.{Node, at, len}
+use Rattle.totdb.specs.Nodes.{Node, nodeAt, len}
 use Rattle.cert.specs.Definitions.{if, only-if}
 use Rattle.cert.specs.Equal.{request-dec}
 use Rattle.cert.specs.Requests.{Request, request, nodeOf, needs}
@@ -46,7 +46,7 @@ heldWith b h = cond (isHeld (not b) h) 3 (cond b 2 1)
 pub record RequestIn (t : List Node) (n v : ℕ) : Type 0 where
   pub there : n < length t
   pub above : 1 ≤ v
-  pub within : v ≤ len (at t n)
+  pub within : v ≤ len (nodeAt t n)
 
 -- A side, beside one of q literals, of a join of which the value v is asked.
 pub record SideAsked (t : List Node) (s : Shown) (q v : ℕ) : Type 0 where

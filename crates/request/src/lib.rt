@@ -1,5 +1,4 @@
 // Requests, down the tree: a node turns to its join's sides and a side to its node.
-use define::Out;
 use rows::Join;
 use rows::Shown;
 ghost use mathlib.Core.Path.{_≡_};
@@ -62,8 +61,8 @@ fn hold(store: &mut [u32], node: usize, value: usize, only_if: bool)
     ensures { λ _. ⌜ now (store .exit)
         ≡ set (now (store .entry)) (heldAt node value) (heldWith «only_if» (getD (now (store .entry)) (heldAt node value) 0)) ⌝ }
 {
-    let at = held_at(node, value);
-    store[at] = with_direction(store[at], only_if);
+    let slot = held_at(node, value);
+    store[slot] = with_direction(store[slot], only_if);
 }
 
 // The literals that a value names on a side of p literals, beside one of q: the lowest and the highest.
@@ -84,17 +83,17 @@ fn write_request(
     nodes: &[u32],
     store: &mut [u32],
     log: &mut [u8],
-    o: Out,
+    at: usize,
     x: Join,
     value: usize,
     only_if: bool,
-) -> Out
-    requires { ⌜ Represented (now nodes) (λ t s. JoinIn t x value) (memory (now store) (now log) o) ⌝ }
+) -> usize
+    requires { ⌜ Represented (now nodes) (λ t s. JoinIn t x value) (memory (now store) (now log) at) ⌝ }
     ensures { λ r. ⌜ Simulates (now (nodes .entry)) (λ t s. JoinIn t x value)
         (λ t s. writeRequest t (request (x .node) value (direction «only_if»)) s)
-        (memory (now (store .entry)) (now (log .entry)) o) (memory (now (store .exit)) (now (log .exit)) r) ⌝ }
+        (memory (now (store .entry)) (now (log .entry)) at) (memory (now (store .exit)) (now (log .exit)) r) ⌝ }
 {
-    let p = splits::write_clauses(nodes, store, log, o, x, value, only_if);
+    let p = splits::write_clauses(nodes, store, log, at, x, value, only_if);
     hold(store, x.node, value, only_if);
     p
 }
@@ -104,29 +103,29 @@ fn node_request(
     nodes: &[u32],
     store: &mut [u32],
     log: &mut [u8],
-    o: Out,
+    at: usize,
     node: usize,
     value: usize,
     only_if: bool,
-) -> Out
-    requires { ⌜ Represented (now nodes) (λ t s. RequestIn t node value) (memory (now store) (now log) o) ⌝ }
+) -> usize
+    requires { ⌜ Represented (now nodes) (λ t s. RequestIn t node value) (memory (now store) (now log) at) ⌝ }
     ensures { λ r. ⌜ Simulates (now (nodes .entry)) (λ t s. RequestIn t node value)
         (λ t s. askFor t (request node value (direction «only_if»)) s)
-        (memory (now (store .entry)) (now (log .entry)) o) (memory (now (store .exit)) (now (log .exit)) r) ⌝ }
+        (memory (now (store .entry)) (now (log .entry)) at) (memory (now (store .exit)) (now (log .exit)) r) ⌝ }
 {
-    if log.len() < o.at {
-        return o;
+    if log.len() < at {
+        return at;
     }
     if is_leaf(nodes, node) {
-        return o;
+        return at;
     }
     if is_held(store, node, value, only_if) {
-        return o;
+        return at;
     }
     let x = rows::join_at(nodes, node);
     let l = x.left;
     let r = x.right;
-    let a = side_request(nodes, store, log, o, l, r.len, value, only_if);
+    let a = side_request(nodes, store, log, at, l, r.len, value, only_if);
     let b = side_request(nodes, store, log, a, r, l.len, value, only_if);
     write_request(nodes, store, log, b, x, value, only_if)
 }
@@ -136,24 +135,24 @@ fn side_request(
     nodes: &[u32],
     store: &mut [u32],
     log: &mut [u8],
-    o: Out,
+    at: usize,
     s: Shown,
     q: usize,
     value: usize,
     only_if: bool,
-) -> Out
-    requires { ⌜ Represented (now nodes) (λ t u. SideAsked t s q value) (memory (now store) (now log) o) ⌝ }
+) -> usize
+    requires { ⌜ Represented (now nodes) (λ t u. SideAsked t s q value) (memory (now store) (now log) at) ⌝ }
     ensures { λ r. ⌜ Simulates (now (nodes .entry)) (λ t u. SideAsked t s q value)
         (λ t u. each (askFor t) (below (direction «only_if») (s .side) (named (direction «only_if») value (s .len) q)) u)
-        (memory (now (store .entry)) (now (log .entry)) o) (memory (now (store .exit)) (now (log .exit)) r) ⌝ }
+        (memory (now (store .entry)) (now (log .entry)) at) (memory (now (store .exit)) (now (log .exit)) r) ⌝ }
 {
     let side = s.side;
     if is_leaf(nodes, side.node) {
-        return o;
+        return at;
     }
     let low = lowest(value, q);
     let high = highest(value, s.len);
-    let mut p = o;
+    let mut p = at;
     for i in low..high + 1 {
         // What is held, as most is, needs no call.
         if is_held(store, side.node, side.offset + i, only_if) {
@@ -170,29 +169,29 @@ fn serve_needs(
     nodes: &[u32],
     store: &mut [u32],
     log: &mut [u8],
-    o: Out,
+    at: usize,
     x: Join,
     value: usize,
     only_if: bool,
-) -> Out
-    requires { ⌜ Represented (now nodes) (λ t s. JoinIn t x value) (memory (now store) (now log) o) ⌝ }
+) -> usize
+    requires { ⌜ Represented (now nodes) (λ t s. JoinIn t x value) (memory (now store) (now log) at) ⌝ }
     ensures { λ r. ⌜ Simulates (now (nodes .entry)) (λ t s. JoinIn t x value)
         (λ t s. each (askFor t) (needs t (request (x .node) value (direction «only_if»))) s)
-        (memory (now (store .entry)) (now (log .entry)) o) (memory (now (store .exit)) (now (log .exit)) r) ⌝ }
+        (memory (now (store .entry)) (now (log .entry)) at) (memory (now (store .exit)) (now (log .exit)) r) ⌝ }
 {
     let l = x.left;
     let r = x.right;
-    let a = side_request(nodes, store, log, o, l, r.len, value, only_if);
+    let a = side_request(nodes, store, log, at, l, r.len, value, only_if);
     side_request(nodes, store, log, a, r, l.len, value, only_if)
 }
 
 // Both directions of a join, neither of them held: what both need comes first.
-fn both(nodes: &[u32], store: &mut [u32], log: &mut [u8], o: Out, x: Join, value: usize) -> Out
-    requires { ⌜ Represented (now nodes) (λ t s. JoinIn t x value) (memory (now store) (now log) o) ⌝ }
+fn both(nodes: &[u32], store: &mut [u32], log: &mut [u8], at: usize, x: Join, value: usize) -> usize
+    requires { ⌜ Represented (now nodes) (λ t s. JoinIn t x value) (memory (now store) (now log) at) ⌝ }
     ensures { λ r. ⌜ Simulates (now (nodes .entry)) (λ t s. JoinIn t x value) (λ t s. writeBoth t (x .node) value s)
-        (memory (now (store .entry)) (now (log .entry)) o) (memory (now (store .exit)) (now (log .exit)) r) ⌝ }
+        (memory (now (store .entry)) (now (log .entry)) at) (memory (now (store .exit)) (now (log .exit)) r) ⌝ }
 {
-    let a = serve_needs(nodes, store, log, o, x, value, false);
+    let a = serve_needs(nodes, store, log, at, x, value, false);
     let b = serve_needs(nodes, store, log, a, x, value, true);
     let c = write_request(nodes, store, log, b, x, value, false);
     write_request(nodes, store, log, c, x, value, true)
@@ -203,15 +202,15 @@ fn each_direction(
     nodes: &[u32],
     store: &mut [u32],
     log: &mut [u8],
-    o: Out,
+    at: usize,
     node: usize,
     value: usize,
-) -> Out
-    requires { ⌜ Represented (now nodes) (λ t s. RequestIn t node value) (memory (now store) (now log) o) ⌝ }
+) -> usize
+    requires { ⌜ Represented (now nodes) (λ t s. RequestIn t node value) (memory (now store) (now log) at) ⌝ }
     ensures { λ r. ⌜ Simulates (now (nodes .entry)) (λ t s. RequestIn t node value) (λ t s. askBoth t node value s)
-        (memory (now (store .entry)) (now (log .entry)) o) (memory (now (store .exit)) (now (log .exit)) r) ⌝ }
+        (memory (now (store .entry)) (now (log .entry)) at) (memory (now (store .exit)) (now (log .exit)) r) ⌝ }
 {
-    let a = node_request(nodes, store, log, o, node, value, false);
+    let a = node_request(nodes, store, log, at, node, value, false);
     node_request(nodes, store, log, a, node, value, true)
 }
 
@@ -220,28 +219,28 @@ pub fn request(
     nodes: &[u32],
     store: &mut [u32],
     log: &mut [u8],
-    o: Out,
+    at: usize,
     node: usize,
     value: usize,
     direction: u32,
-) -> Out
-    requires { ⌜ Represented (now nodes) (λ t s. RequestIn t node value) (memory (now store) (now log) o) ⌝ }
+) -> usize
+    requires { ⌜ Represented (now nodes) (λ t s. RequestIn t node value) (memory (now store) (now log) at) ⌝ }
     requires { ⌜ (1 ≤ direction) × (direction ≤ 3) ⌝ }
     ensures { λ r. ⌜ Simulates (now (nodes .entry)) (λ t s. RequestIn t node value) (λ t s. serve t (requests node value direction) s)
-        (memory (now (store .entry)) (now (log .entry)) o) (memory (now (store .exit)) (now (log .exit)) r) ⌝ }
+        (memory (now (store .entry)) (now (log .entry)) at) (memory (now (store .exit)) (now (log .exit)) r) ⌝ }
 {
     if direction != 3 {
-        return node_request(nodes, store, log, o, node, value, direction == 2);
+        return node_request(nodes, store, log, at, node, value, direction == 2);
     }
-    if log.len() < o.at {
-        return o;
+    if log.len() < at {
+        return at;
     }
     if is_leaf(nodes, node) {
-        return o;
+        return at;
     }
     if store[held_at(node, value)] != 0 {
-        return each_direction(nodes, store, log, o, node, value);
+        return each_direction(nodes, store, log, at, node, value);
     }
     let x = rows::join_at(nodes, node);
-    both(nodes, store, log, o, x, value)
+    both(nodes, store, log, at, x, value)
 }

@@ -10,7 +10,7 @@ use lib.Dec.{eqb}
 use lib.ListN.{length, getD, set, take, length-take, length-drop}
 use lib.Seq.{getD-set-same, getD-set-other, drop-set-lt}
 use Rattle.sizes.specs.Sizes.{mostLeaves, mostNodes, width, rowAt, lengthColumn, firstColumn, kindColumn, takenColumn, leftColumn, rightColumn, listColumn, sideLenColumn, sideWindowColumn, leftAt, rightAt, leftWindow, rightWindow}
-use Rattle.totdb.specs.Nodes.{Node, leaf, join, at, len, output, leafCount, any, isOver, taken}
+use Rattle.totdb.specs.Nodes.{Node, leaf, join, nodeAt, len, output, leafCount, any, isOver, taken}
 use Rattle.totdb.specs.declared.Side.{Side}
 use Rattle.cert.specs.Sized.{Sized, Fit}
 use Rattle.cert.proofs.Distinct.{true≢false, or-right}
@@ -37,7 +37,7 @@ module _ {A : Type 0} (f : A → Bool) (d : A) where
 -- ---- sides
 
 pub taken-of : {t : List Node} {p w : ℕ} {s : Side} → SideAt t p w s → taken t (s .node) ≡ true
-unfolding taken at
+unfolding taken nodeAt
 taken-of {t = t} (left-at n ls o l r h e) = one-of (isOver (l .node)) (leaf 0) t n (ap (isOver (l .node)) e ∙ over-left ls o l r) h
 taken-of {t = t} (right-at n ls o l r h e) = one-of (isOver (r .node)) (leaf 0) t n (ap (isOver (r .node)) e ∙ over) h
   where
@@ -130,10 +130,10 @@ bounded-snoc t x b next = record {
 
 -- The new node stands under no side.
 pub taken-last : (t : List Node) (x : Node) → Sized (t ++ (x ∷ [])) → taken (t ++ (x ∷ [])) (length t) ≡ false
-unfolding taken at Sized Fit isOver
+unfolding taken nodeAt Sized Fit isOver
 taken-last t x sized =
     none-of (isOver (length t)) (leaf 0) (t ++ (x ∷ []))
-    (λ n h. by (at (t ++ (x ∷ [])) n) n (omega (arith, length-snoc t x)) (sized n h))
+    (λ n h. by (nodeAt (t ++ (x ∷ [])) n) n (omega (arith, length-snoc t x)) (sized n h))
   where
     by : (a : Node) (n : ℕ) → n ≤ length t → Fit (t ++ (x ∷ [])) n a → isOver (length t) a ≡ false
     by (leaf l) n h f = refl
@@ -155,7 +155,7 @@ module _ (t : List Node) (x : Node) (b : Bounded t) (b′ : Bounded (t ++ (x ∷
       window = kept (p + sideWindowColumn) (λ e. omega arith) ∙ old .window ∙ window-own b of ∙ sym (window-own b′ (side-more t x of));
     }
 
-    kind-kept : (n : ℕ) → n < length t → (a : Node) → at t n ≡ a → KindOf r t a → KindOf (set r takenColumn y) (t ++ (x ∷ [])) a
+    kind-kept : (n : ℕ) → n < length t → (a : Node) → nodeAt t n ≡ a → KindOf r t a → KindOf (set r takenColumn y) (t ++ (x ∷ [])) a
     unfolding KindOf
     kind-kept n h (leaf l) e k = kept kindColumn (λ e. omega arith) ∙ k
     kind-kept n h (join m o l u) e k = (
@@ -164,14 +164,14 @@ module _ (t : List Node) (x : Node) (b : Bounded t) (b′ : Bounded (t ++ (x ∷
       side-kept rightColumn (omega arith) (right-at n m o l u h e) (k .2),
     )
 
-  row-kept : (r : List ℕ) (n : ℕ) → n < length t → takenColumn < length r → Row r t n (at t n)
-      → Row (set r takenColumn (cond (taken (t ++ (x ∷ [])) n) 1 0)) (t ++ (x ∷ [])) n (at t n)
+  row-kept : (r : List ℕ) (n : ℕ) → n < length t → takenColumn < length r → Row r t n (nodeAt t n)
+      → Row (set r takenColumn (cond (taken (t ++ (x ∷ [])) n) 1 0)) (t ++ (x ∷ [])) n (nodeAt t n)
   row-kept r n h k old = record {
     length = kept r y lengthColumn (λ e. omega arith) ∙ old .length;
     first = kept r y firstColumn (λ e. omega arith) ∙ old .first;
-    kind = kind-kept r y n h (at t n) refl (old .kind);
+    kind = kind-kept r y n h (nodeAt t n) refl (old .kind);
     under = getD-set-same r takenColumn y 0 k;
-    list = ap (take (len (at t n))) (drop-set-lt listColumn r takenColumn y (omega arith)) ∙ old .list;
+    list = ap (take (len (nodeAt t n))) (drop-set-lt listColumn r takenColumn y (omega arith)) ∙ old .list;
   }
     where
       y : ℕ

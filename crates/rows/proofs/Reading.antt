@@ -6,7 +6,7 @@ use native.Mathlib.Omega.{arith}
 use lib.ListN.{length, getD, take, drop}
 use lib.Seq.{getD-take, getD-drop, take-take, drop-drop}
 use Rattle.sizes.specs.Sizes.{mostNodes, width, row, rowAt, lengthColumn, firstColumn, leftColumn, rightColumn, listColumn, sideLenColumn, sideWindowColumn, firstAt, leftAt, rightAt, listAt, leftWindow, rightWindow}
-use Rattle.totdb.specs.Nodes.{Node, leaf, join, at, leaves, len, output, fromFirst, sideLen}
+use Rattle.totdb.specs.Nodes.{Node, leaf, join, nodeAt, leaves, len, output, fromFirst, sideLen}
 use Rattle.totdb.specs.declared.Side.{Side}
 use Rattle.rows.specs.Windows.{SideAt, left-at, right-at}
 use Rattle.rows.specs.Rows.{rowOf, readSide, SideRow, KindOf, Table, readShown, ShownOf, SidePlace, JoinPlace, JoinOf, readJoin}
@@ -24,19 +24,19 @@ part-take (suc f) m (suc l) [] h = refl
 part-take (suc f) m (suc l) (x ∷ xs) h = part-take f m l xs (omega arith)
 
 module _ {ns : List ℕ} {t : List Node} (tb : Table ns t) (n : ℕ) (h : n < length t) where
-  pub row-there : (rowAt n + row ≤ length ns) × (n < mostNodes) × (len (at t n) ≤ width)
+  pub row-there : (rowAt n + row ≤ length ns) × (n < mostNodes) × (len (nodeAt t n) ≤ width)
   row-there = (omega (arith, tb .has .room), omega (arith, tb .bounded .few), tb .bounded .short n h)
 
-  pub len-is : getD ns (rowAt n) 0 ≡ len (at t n)
+  pub len-is : getD ns (rowAt n) 0 ≡ len (nodeAt t n)
   len-is = let e : rowAt n + 0 ≡ rowAt n = omega arith in rw e at (in-row ns n lengthColumn (omega arith)) ∙ tb .has .row n h .length
 
-  pub first-is : getD ns (firstAt n) 0 ≡ output (at t n) 1
+  pub first-is : getD ns (firstAt n) 0 ≡ output (nodeAt t n) 1
   first-is = in-row ns n firstColumn (omega arith) ∙ tb .has .row n h .first
 
-  pub list-is : take (len (at t n)) (drop (listAt n) ns) ≡ leaves (at t n)
+  pub list-is : take (len (nodeAt t n)) (drop (listAt n) ns) ≡ leaves (nodeAt t n)
   list-is =
-      ap (take (len (at t n))) (sym (drop-drop listColumn (rowAt n) ns))
-      ∙ sym (part-take listColumn (len (at t n)) row (drop (rowAt n) ns) (omega (arith, row-there .2)))
+      ap (take (len (nodeAt t n))) (sym (drop-drop listColumn (rowAt n) ns))
+      ∙ sym (part-take listColumn (len (nodeAt t n)) row (drop (rowAt n) ns) (omega (arith, row-there .2)))
       ∙ tb .has .row n h .list
 
 -- The outputs of a node, from its first.
@@ -92,7 +92,7 @@ module _ {ns : List ℕ} {t : List Node} (tb : Table ns t) where
     node-is = ap (λ (u : Side). u .node) (numbers of .0)
 
     -- All that is read of a side.
-    pub shown-is : readShown ns p ≡ record { side = s; len = sideLen t s; first = output (at t (s .node)) 1; window = w }
+    pub shown-is : readShown ns p ≡ record { side = s; len = sideLen t s; first = output (nodeAt t (s .node)) 1; window = w }
     shown-is =
         rw (
           numbers of .0,
@@ -109,11 +109,11 @@ module _ {ns : List ℕ} {t : List Node} (tb : Table ns t) where
     }
 
     pub shown-of : ShownOf t (readShown ns p)
-    shown-of = rw shown-is (record { place = p; of = of; length = refl; first = refl })
+    shown-of = rw shown-is (record { row = p; of = of; length = refl; first = refl })
 
 -- ---- joins
 
-module _ {ns : List ℕ} {t : List Node} (tb : Table ns t) (n : ℕ) (h : n < length t) {ls : List ℕ} {o : ℕ} {l r : Side} (e : at t n ≡ join ls o l r) where
+module _ {ns : List ℕ} {t : List Node} (tb : Table ns t) (n : ℕ) (h : n < length t) {ls : List ℕ} {o : ℕ} {l r : Side} (e : nodeAt t n ≡ join ls o l r) where
   left-of : SideAt t (leftAt n) (leftWindow n) l
   left-of = left-at n ls o l r h e
 

@@ -8,7 +8,7 @@ use borrow.Author.Tests.{eqb-true, eq-eqb}
 use lib.Dec.{eqb}
 use lib.ListN.{length}
 use Rattle.memo.proofs.Booleans.{and-true}
-use Rattle.totdb.specs.Nodes.{Node, leaf, join, at, len, sideLen}
+use Rattle.totdb.specs.Nodes.{Node, leaf, join, nodeAt, len, sideLen}
 use Rattle.totdb.specs.declared.Side.{Side}
 use Rattle.cert.specs.Sized.{Sized, Fit}
 use Rattle.rows.specs.Windows.{SideAt, left-at, right-at, shows, windowFrom, windowAt}
@@ -16,7 +16,7 @@ use Rattle.rows.specs.Rows.{Bounded}
 
 module _ {t : List Node} (b : Bounded t) where
   pub side-inside : {p w : ℕ} {s : Side} → SideAt t p w s
-      → (s .node < length t) × (s .offset + sideLen t s ≤ len (at t (s .node))) × (1 ≤ sideLen t s)
+      → (s .node < length t) × (s .offset + sideLen t s ≤ len (nodeAt t (s .node))) × (1 ≤ sideLen t s)
   unfolding Sized Fit
   side-inside (left-at n ls o l r h e) =
       let f : Fit t n (join ls o l r) = subst (Fit t n) e (b .sized n h) in
@@ -42,8 +42,8 @@ false-true p q = absurd (let z : _≡_ {A = ℕ} 0 1 = cc in omega arith)
 -- The number of the join of a side: it has this side.
 pub record JoinOf (t : List Node) (s : Side) (i : ℕ) : Type 1 where
   pub there : i < length t
-  pub is : (ls : List ℕ) (o : ℕ) (l r : Side) (P : Side → Type 0) → at t i ≡ join ls o l r → P l → P r → P s
-  pub no-leaf : (a : ℕ) → at t i ≡ leaf a → ⊥
+  pub is : (ls : List ℕ) (o : ℕ) (l r : Side) (P : Side → Type 0) → nodeAt t i ≡ join ls o l r → P l → P r → P s
+  pub no-leaf : (a : ℕ) → nodeAt t i ≡ leaf a → ⊥
 
 join-sides : {m k : List ℕ} {o q : ℕ} {a b l r : Side} → join m o a b ≡ join k q l r → (a ≡ l) × (b ≡ r)
 join-sides e = (cc, cc)
@@ -71,16 +71,16 @@ join-of (right-at n ls o l r h e) = (
 
 module _ {t : List Node} (b : Bounded t) {p w : ℕ} {s : Side} (of : SideAt t p w s) where
   -- The rest of the table from its node i on, which the join of the side is among.
-  from-here : (u : List Node) (i : ℕ) → ((j : ℕ) → j < length u → at t (i + j) ≡ at u j) → i + length u ≡ length t → i ≤ join-of of .0
+  from-here : (u : List Node) (i : ℕ) → ((j : ℕ) → j < length u → nodeAt t (i + j) ≡ nodeAt u j) → i + length u ≡ length t → i ≤ join-of of .0
       → windowFrom t (s .node) (s .offset) (sideLen t s) u i ≡ w
-  unfolding windowFrom at
+  unfolding windowFrom nodeAt
   from-here [] i same all low = absurd (omega (arith, join-of of .1 .there))
   from-here (x ∷ u) i same all low =
       here x (let z : i + 0 ≡ i = omega arith in rw z at (same 0 (omega arith)))
       (λ no. from-here u (suc i) (λ j h. let e : i + suc j ≡ suc i + j = omega arith in rw e at (same (suc j) (omega arith)))
       (omega arith) (omega (arith, no)))
     where
-      here : (x : Node) → at t i ≡ x → ((i ≡ join-of of .0 → ⊥) → windowFrom t (s .node) (s .offset) (sideLen t s) u (suc i) ≡ w)
+      here : (x : Node) → nodeAt t i ≡ x → ((i ≡ join-of of .0 → ⊥) → windowFrom t (s .node) (s .offset) (sideLen t s) u (suc i) ≡ w)
           → windowFrom t (s .node) (s .offset) (sideLen t s) (x ∷ u) i ≡ w
       here (leaf a) e more = more (λ q. join-of of .1 .no-leaf a (rw q at e))
       here (join ls o l r) e more = test (shows t (s .node) (s .offset) (sideLen t s) l) refl (shows t (s .node) (s .offset) (sideLen t s) r) refl

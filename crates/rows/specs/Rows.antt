@@ -5,7 +5,7 @@ use mathlib.Core.List.{List, [], _∷_}
 use Prim.Native.Nat.{ℕ, _+_, _^_, _≤_, _<_}
 use lib.ListN.{length, getD, take, drop}
 use Rattle.sizes.specs.Sizes.{mostLeaves, mostNodes, width, row, rowAt, lengthColumn, firstColumn, kindColumn, takenColumn, leftColumn, rightColumn, listColumn, sideLenColumn, sideWindowColumn, firstAt, leftAt, rightAt}
-use Rattle.totdb.specs.Nodes.{Node, leaf, join, at, len, leaves, output, sideLen, leafCount, taken}
+use Rattle.totdb.specs.Nodes.{Node, leaf, join, nodeAt, len, leaves, output, sideLen, leafCount, taken}
 use Rattle.totdb.specs.declared.Side.{Side}
 use Rattle.cert.specs.Sized.{Sized}
 use Rattle.rows.specs.Windows.{SideAt, windowAt}
@@ -50,15 +50,15 @@ leafColumn (join ls o a b ∷ t) = leafColumn t
 -- The table has the nodes t. Other numbers are left open: the sides of a leaf, what stands after a list, rows after those of t.
 pub record NodesIn (ns : List ℕ) (t : List Node) : Type 0 where
   pub room : rowAt (length t) ≤ length ns
-  pub row : (n : ℕ) → n < length t → Row (rowOf ns n) t n (at t n)
+  pub row : (n : ℕ) → n < length t → Row (rowOf ns n) t n (nodeAt t n)
   pub leaves : take (leafCount t) ns ≡ leafColumn t
 
 -- What holds of the nodes alone. Each stands under one side at most. `low` keeps a literal, and the witness made of it (plus 1), in a u32.
 pub record Bounded (t : List Node) : Type 0 where
   pub few : length t ≤ mostNodes
   pub few-leaves : leafCount t ≤ mostLeaves
-  pub short : (n : ℕ) → n < length t → len (at t n) ≤ width
-  pub low : (n i : ℕ) → n < length t → 1 ≤ i → i ≤ len (at t n) → output (at t n) i ≤ 2 ^ 30
+  pub short : (n : ℕ) → n < length t → len (nodeAt t n) ≤ width
+  pub low : (n i : ℕ) → n < length t → 1 ≤ i → i ≤ len (nodeAt t n) → output (nodeAt t n) i ≤ 2 ^ 30
   pub sized : Sized t
   pub once : (p q a b : ℕ) (s u : Side) → SideAt t p a s → SideAt t q b u → s .node ≡ u .node → (p ≡ q) × (a ≡ b) × (s ≡ u)
 
@@ -80,10 +80,10 @@ readShown ns p = record {
 
 -- What the table has of a side: s is one of the nodes t, with its length, its node's output of value 1, and the place of its window.
 pub record ShownOf (t : List Node) (s : Shown) : Type 0 where
-  pub place : ℕ
-  pub of : SideAt t place (s .window) (s .side)
+  pub row : ℕ
+  pub of : SideAt t row (s .window) (s .side)
   pub length : s .len ≡ sideLen t (s .side)
-  pub first : s .first ≡ output (at t (s .side .node)) 1
+  pub first : s .first ≡ output (nodeAt t (s .side .node)) 1
 
 -- A join by its number: with its output of value 1 and its two sides.
 abbrev pub readJoin : List ℕ → ℕ → Join
@@ -94,8 +94,8 @@ pub record JoinOf (t : List Node) (x : Join) : Type 0 where
   pub there : x .node < length t
   pub leaf-list : List ℕ
   pub variable : ℕ
-  pub is : at t (x .node) ≡ join leaf-list variable (x .left .side) (x .right .side)
-  pub first : x .first ≡ output (at t (x .node)) 1
+  pub is : nodeAt t (x .node) ≡ join leaf-list variable (x .left .side) (x .right .side)
+  pub first : x .first ≡ output (nodeAt t (x .node)) 1
   pub left : ShownOf t (x .left)
   pub right : ShownOf t (x .right)
 

@@ -6,13 +6,13 @@ use Prim.Native.Nat.{ℕ, suc, _<_}
 use lib.Dec.{eqb}
 use lib.ListN.{length}
 use Rattle.sizes.specs.Sizes.{leftAt, rightAt, leftWindow, rightWindow}
-use Rattle.totdb.specs.Nodes.{Node, leaf, join, at, sideLen}
+use Rattle.totdb.specs.Nodes.{Node, leaf, join, nodeAt, sideLen}
 use Rattle.totdb.specs.declared.Side.{Side}
 
 -- A side of a join of the table: the place of its row, and where the first steps of its window would stand.
 pub data SideAt (t : List Node) : ℕ → ℕ → Side → Type 0 where
-  left-at : (n : ℕ) (ls : List ℕ) (o : ℕ) (l r : Side) → n < length t → at t n ≡ join ls o l r → SideAt t (leftAt n) (leftWindow n) l
-  right-at : (n : ℕ) (ls : List ℕ) (o : ℕ) (l r : Side) → n < length t → at t n ≡ join ls o l r → SideAt t (rightAt n) (rightWindow n) r
+  left-at : (n : ℕ) (ls : List ℕ) (o : ℕ) (l r : Side) → n < length t → nodeAt t n ≡ join ls o l r → SideAt t (leftAt n) (leftWindow n) l
+  right-at : (n : ℕ) (ls : List ℕ) (o : ℕ) (l r : Side) → n < length t → nodeAt t n ≡ join ls o l r → SideAt t (rightAt n) (rightWindow n) r
 
 -- A side shows m outputs of the node n above the offset f.
 unfoldable pub shows : List Node → ℕ → ℕ → ℕ → Side → Bool

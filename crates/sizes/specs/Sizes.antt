@@ -45,7 +45,7 @@ someBytes = 576
 abbrev pub width : ℕ
 width = mostLeaves
 
--- The counter of steps stops here. No log reaches it: a step takes two bytes at least.
+-- The counters of steps and of clauses stop here. No log reaches it: a step takes two bytes at least.
 abbrev pub stepStop : ℕ
 stepStop = 2000000
 
@@ -106,17 +106,31 @@ rightAt n = rowAt n + rightColumn
 abbrev pub listAt : ℕ → ℕ
 listAt n = rowAt n + listColumn
 
--- ---- the store: the places of the stored definitions in the order of their writing, then a row for each node
+-- ---- the store: the places of the stored definitions in the order of their writing, three counters, then a row for each node
 
 -- No definition takes fewer than eight bytes of a log.
 abbrev pub trail : ℕ
 trail = 8192
 
+-- How many definitions are stored; the next step; how many clauses are written.
+abbrev pub marksAt : ℕ
+marksAt = trail
+
+abbrev pub stepAt : ℕ
+stepAt = trail + 1
+
+abbrev pub clausesAt : ℕ
+clausesAt = trail + 2
+
+-- The place of the first row.
+abbrev pub storeStart : ℕ
+storeStart = trail + 3
+
 abbrev pub storeRow : ℕ
 storeRow = 134
 
 abbrev pub storeAt : ℕ → ℕ
-storeAt n = trail + storeRow * n
+storeAt n = storeStart + storeRow * n
 
 -- In a row: the first steps of the real definitions of the values 0 to 65; of a join, those of the window of its left side (the sum of value 0,
 -- the rest), and of its right side; the directions held of the values 1 to 64, as a request names them.

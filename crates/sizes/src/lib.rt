@@ -32,7 +32,7 @@ pub const SOME_BYTES: usize = LEAF_BYTES * MOST_LEAVES + JOIN_BYTES * (SOME_NODE
 // The values of a node: no more than there are leaves.
 pub const WIDTH: usize = MOST_LEAVES;
 
-// The counter of steps stops here. No log reaches it: a step takes two bytes at least.
+// The counters of steps and of clauses stop here. No log reaches it: a step takes two bytes at least.
 pub const STEP_STOP: u32 = 2000000;
 
 // ---- the table of the nodes: the literals of the leaves in the order of their making, then a row for each node
@@ -66,10 +66,20 @@ pub const FEW_NODES_SIZE: usize = MOST_LEAVES + ROW * FEW_NODES;
 
 pub const SOME_NODES_SIZE: usize = MOST_LEAVES + ROW * SOME_NODES;
 
-// ---- the store: the places of the stored definitions in the order of their writing, then a row for each node
+// ---- the store: the places of the stored definitions in the order of their writing, three counters, then a row for each node
 
 // No definition takes fewer than eight bytes of a log.
 pub const TRAIL: usize = 8192;
+
+// How many definitions are stored; the next step; how many clauses are written.
+pub const MARKS: usize = TRAIL;
+
+pub const STEP: usize = TRAIL + 1;
+
+pub const CLAUSES: usize = TRAIL + 2;
+
+// The place of the first row.
+pub const STORE_START: usize = TRAIL + 3;
 
 pub const STORE_ROW: usize = 134;
 
@@ -82,8 +92,8 @@ pub const RIGHT_WINDOW: usize = 68;
 // The place before that of value 1.
 pub const HELD: usize = 69;
 
-pub const STORE_SIZE: usize = TRAIL + STORE_ROW * MOST_NODES;
+pub const STORE_SIZE: usize = STORE_START + STORE_ROW * MOST_NODES;
 
-pub const FEW_STORE_SIZE: usize = TRAIL + STORE_ROW * FEW_NODES;
+pub const FEW_STORE_SIZE: usize = STORE_START + STORE_ROW * FEW_NODES;
 
-pub const SOME_STORE_SIZE: usize = TRAIL + STORE_ROW * SOME_NODES;
+pub const SOME_STORE_SIZE: usize = STORE_START + STORE_ROW * SOME_NODES;

@@ -11,7 +11,7 @@ use Rattle.record.specs.Record.{numbers}
 use Rattle.record.specs.Writing.{Buffer, Puts}
 use Rattle.totdb.specs.Nodes.{Node, plainOr}
 use Rattle.totdb.proofs.Sides.{plain-keyed}
-use Rattle.cert.specs.Definitions.{sideDef}
+use Rattle.cert.specs.Definitions.{sideDef, real}
 use Rattle.cert.specs.Requests.{Clause, definition}
 use Rattle.cert.specs.State.{State, Stored, stepIn}
 use Rattle.derivation.specs.Operands.{operand, part, clauseRoom, wholeNumbers}
@@ -22,8 +22,10 @@ use Rattle.memo.proofs.Booleans.{and-true}
 use Rattle.rows.specs.Rows.{Bounded}
 use Rattle.rows.specs.declared.Join.{Join}
 use Rattle.rows.specs.declared.Shown.{Shown}
-use Rattle.define.specs.Store.{direction}
+use Rattle.define.specs.Store.{direction, Used}
 use Rattle.define.specs.Lookups.{SideIn}
+use Rattle.define.proofs.SideLooks.{plain-value}
+use Rattle.define.proofs.Slots.{real-named}
 use Rattle.clauses.specs.Firsts.{realStep, FirstsOf, hasFirst, sideStored, sidesStored}
 use Rattle.clauses.specs.Joins.{ClauseValue}
 use Rattle.clauses.proofs.Joins.{plain-operand}
@@ -81,6 +83,12 @@ readied {store} {n} {at} {x} {v} {i} {j} {b} {long} h =
     let f = and-true (hasFirst store (storeAt (x .node) + v)) _ (r .1) in
     let g = and-true (hasFirst store (storeAt (x .left .side .node) + i)) _ (f .1) in
     record { long-is = p .0; both = q .0; room = leb-true (at + clauseRoom) n (r .0); this = f .0; left = g .0; right = g .1 }
+
+-- The key of a plain side's value is the value itself.
+pub long-used : {t : List Node} → Bounded t → {s : Shown} {a : ℕ} → SideIn t s a → isLong s ≡ true → Used t (real (s .side .node) a)
+long-used b {s} {a} i l =
+    let p = long-side s l in
+    rw (plain-keyed (s .side) (p .1) a) at (real-named b (plain-value b (p .0) (p .1) i) .used)
 
 -- ---- what the sides look up is stored
 

@@ -7,7 +7,7 @@ use native.Mathlib.Omega.{arith}
 use Rattle.memo.specs.Visit.{each}
 use Rattle.memo.proofs.Lists.{map-agree}
 use Rattle.memo.proofs.Unrolled.{each-append}
-use Rattle.totdb.specs.Nodes.{Node, join, at, range, sideLen}
+use Rattle.totdb.specs.Nodes.{Node, join, nodeAt, range, sideLen}
 use Rattle.cert.specs.Definitions.{if, only-if}
 use Rattle.cert.specs.Requests.{Clause, request, clausesOf, clausesAt, ifClause, onlyIfClause, splits}
 use Rattle.cert.specs.State.{State, writeClause}
@@ -103,7 +103,7 @@ module _ {t : List Node} {x : Join} {v : ℕ} (i : JoinIn t x v) where
       = omega (arith, w .low-is, w .high-is, i .of .left .length, i .of .right .length) in
       range-same e f
 
-  only-same : (a : ℕ) → a ≤ v - 1 → onlyIfClause t (x .node) (at t (x .node)) (x .left .side) (x .right .side) v a ≡ splitClause t x v true a
+  only-same : (a : ℕ) → a ≤ v - 1 → onlyIfClause t (x .node) (nodeAt t (x .node)) (x .left .side) (x .right .side) v a ≡ splitClause t x v true a
   unfolding leftValue clauseOf clausePart lastLiteral onlyIfClause direction
   only-same a h =
       let e : suc a ≡ a + 1 = omega arith in
@@ -114,10 +114,10 @@ module _ {t : List Node} {x : Join} {v : ℕ} (i : JoinIn t x v) where
       → clausesOf t (request (x .node) v (direction b)) ≡ map {B = Clause} (splitClause t x v b) (range low (high + 1 - low))
   unfolding clausesOf direction splitSum leftValue clauseOf ifClause onlyIfClause clausePart lastLiteral
   clauses-are false w =
-      at-join (at t (x .node)) (i .of .leaf-list) (i .of .variable) (i .of .is) .0
+      at-join (nodeAt t (x .node)) (i .of .leaf-list) (i .of .variable) (i .of .is) .0
       ∙ ap (map {B = Clause} (splitClause t x v false)) (splits-are w)
   clauses-are true w =
-      at-join (at t (x .node)) (i .of .leaf-list) (i .of .variable) (i .of .is) .1
+      at-join (nodeAt t (x .node)) (i .of .leaf-list) (i .of .variable) (i .of .is) .1
       ∙ map-agree (splits (v - 1) (sideLen t (x .left .side)) (sideLen t (x .right .side)))
       (λ a m. only-same a (splits-mem (v - 1) (sideLen t (x .left .side)) (sideLen t (x .right .side)) a m .0))
       ∙ ap (map {B = Clause} (splitClause t x v true)) (splits-are w)

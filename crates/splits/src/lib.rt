@@ -1,21 +1,19 @@
 // The clauses of a value in one direction, one for each split of a sum over the two sides.
-use define::Out;
 use derivation::Whole;
 use rows::Join;
 use rows::Shown;
 ghost use mathlib.Core.Path.{_≡_};
-ghost use mathlib.Core.Bool.{true};
 ghost use mathlib.Core.List.{List, [], _∷_};
 ghost use Prim.Native.Nat.{ℕ, _≤_, _<_, _+_, _-_, min};
 ghost use lib.ListN.{length, getD};
-ghost use Rattle.sizes.specs.Sizes.{width, storeAt};
+ghost use Rattle.sizes.specs.Sizes.{width, stepStop, storeAt};
 ghost use Rattle.memo.specs.Visit.{each};
 ghost use Rattle.totdb.specs.Nodes.{Node};
 ghost use Rattle.cert.specs.Requests.{request, clausesOf};
 ghost use Rattle.cert.specs.State.{writeClause, write};
 ghost use Rattle.derivation.specs.Operands.{clauseRoom};
 ghost use Rattle.rows.specs.Rows.{Bounded};
-ghost use Rattle.define.specs.Store.{direction};
+ghost use Rattle.define.specs.Store.{direction, clauseCounted};
 ghost use Rattle.define.specs.Represents.{memory, Represented, Simulates};
 ghost use Rattle.define.specs.Lookups.{SideIn};
 ghost use Rattle.clauses.specs.Firsts.{realStep, hasFirst};
@@ -94,17 +92,17 @@ fn has_both(x: Join, i: usize, j: usize, only_if: bool) -> bool
     0 < j
 }
 
-// The first step of a plain side's definition, 0 where it is missing. The key of a value is the value itself.
+// The first step at a value of a side's node, 0 where it is missing. Of a plain side it is the value's own.
 fn first_of(store: &[u32], s: Shown, a: usize) -> u32
-    requires { ⌜ SideRoom (now store) s a × (isLong s ≡ true) ⌝ }
+    requires { ⌜ SideRoom (now store) s a ⌝ }
     ensures { λ r. ⌜ r ≡ getD (now (store .entry)) (storeAt (s .side .node) + a) 0 ⌝ }
 {
     let side = s.side;
-    store[define::store_at(side.node) + side.key(a)]
+    store[define::store_at(side.node) + a]
 }
 
 fn has_first_of(store: &[u32], s: Shown, a: usize) -> bool
-    requires { ⌜ SideRoom (now store) s a × (isLong s ≡ true) ⌝ }
+    requires { ⌜ SideRoom (now store) s a ⌝ }
     ensures { λ r. ⌜ r ≡ hasFirst (now (store .entry)) (storeAt (s .side .node) + a) ⌝ }
 {
     first_of(store, s, a) != 0
@@ -122,7 +120,7 @@ fn is_ready(
     only_if: bool,
     long: bool,
 ) -> bool
-    requires { ⌜ ClauseReach (now store) x value i j «only_if» × (long ≡ areLong x) ⌝ }
+    requires { ⌜ ClauseReach (now store) x value i j «only_if» ⌝ }
     ensures { λ r. ⌜ r ≡ isReady (now (store .entry)) length at x value i j «only_if» long ⌝ }
 {
     if !long {
@@ -145,13 +143,10 @@ fn is_ready(
 
 // The step of a definition of a value above 0, by its first.
 fn later_step(first: u32, only_if: bool) -> u32
+    requires { ⌜ first < stepStop ⌝ }
     ensures { λ r. ⌜ ((v : ℕ) → 0 < v → r ≡ realStep first v «only_if») ⌝ }
 {
-    if only_if {
-        derivation::next_step(first)
-    } else {
-        first
-    }
+    if only_if { first + 1 } else { first }
 }
 
 // The literal of a part that is there.
@@ -164,42 +159,37 @@ fn part_literal(s: Shown, a: usize, only_if: bool) -> u32
     if only_if { literal } else { pb::neg(literal) }
 }
 
-// Such a clause, with its step.
+// Such a clause, with its step, which is still to be counted.
 fn push_split(
     store: &[u32],
     log: &mut [u8],
-    o: Out,
+    at: usize,
     x: Join,
     value: usize,
     i: usize,
     j: usize,
     only_if: bool,
-) -> Out
-    requires { ⌜ BothParts x i j × (o .at + clauseRoom ≤ length (now log)) ⌝ }
-    requires { ⌜ ((ns : List ℕ) × Represented ns (λ t s. ClauseIn t x value i j «only_if») (memory (now store) (now log) o)) ⌝ }
+) -> usize
+    requires { ⌜ BothParts x i j × (at + clauseRoom ≤ length (now log)) ⌝ }
+    requires { ⌜ ((ns : List ℕ) × Represented ns (λ t s. ClauseIn t x value i j «only_if») (memory (now store) (now log) at)) ⌝ }
     ensures { λ r. ⌜ ((ns : List ℕ) → Simulates ns (λ t s. ClauseIn t x value i j «only_if»)
         (λ t s. write t (clauseOf t x value i j «only_if») s)
-        (memory (now (store .entry)) (now (log .entry)) o) (memory (now (store .entry)) (now (log .exit)) r)) ⌝ }
+        (memory (now (store .entry)) (now (log .entry)) at) (memory (clauseCounted (now (store .entry))) (now (log .exit)) r)) ⌝ }
 {
     let this = store[define::store_at(x.node) + value];
     let left = first_of(store, x.left, i);
     let right = first_of(store, x.right, j);
+    let step = store[sizes::STEP];
     let w = Whole {
         this: later_step(this, only_if),
         left: later_step(left, !only_if),
         right: later_step(right, !only_if),
-        step: o.step,
+        step: step,
         left_part: part_literal(x.left, i, only_if),
         right_part: part_literal(x.right, j, only_if),
         output: clauses::own_literal(x, value, only_if),
     };
-    let at = derivation::push_whole(log, o.at, w);
-    Out {
-        at: at,
-        marks: o.marks,
-        step: derivation::next_step(o.step),
-        clauses: derivation::next_step(o.clauses),
-    }
+    derivation::push_whole(log, at, w)
 }
 
 // ---- the clauses
@@ -209,24 +199,26 @@ fn write_split(
     nodes: &[u32],
     store: &mut [u32],
     log: &mut [u8],
-    o: Out,
+    at: usize,
     x: Join,
     value: usize,
     i: usize,
     j: usize,
     only_if: bool,
     long: bool,
-) -> Out
+) -> usize
     requires { ⌜ long ≡ areLong x ⌝ }
-    requires { ⌜ Represented (now nodes) (λ t s. ClauseIn t x value i j «only_if») (memory (now store) (now log) o) ⌝ }
+    requires { ⌜ Represented (now nodes) (λ t s. ClauseIn t x value i j «only_if») (memory (now store) (now log) at) ⌝ }
     ensures { λ r. ⌜ Simulates (now (nodes .entry)) (λ t s. ClauseIn t x value i j «only_if»)
         (λ t s. writeClause t (clauseOf t x value i j «only_if») s)
-        (memory (now (store .entry)) (now (log .entry)) o) (memory (now (store .exit)) (now (log .exit)) r) ⌝ }
+        (memory (now (store .entry)) (now (log .entry)) at) (memory (now (store .exit)) (now (log .exit)) r) ⌝ }
 {
-    if is_ready(store, log.len(), o.at, x, value, i, j, only_if, long) {
-        return push_split(store, log, o, x, value, i, j, only_if);
+    if is_ready(store, log.len(), at, x, value, i, j, only_if, long) {
+        let end = push_split(store, log, at, x, value, i, j, only_if);
+        define::count_clause(store);
+        return end;
     }
-    clauses::write_clause(nodes, store, log, o, x, value, i, j, only_if)
+    clauses::write_clause(nodes, store, log, at, x, value, i, j, only_if)
 }
 
 // The clauses of a value in one direction.
@@ -234,15 +226,15 @@ pub fn write_clauses(
     nodes: &[u32],
     store: &mut [u32],
     log: &mut [u8],
-    o: Out,
+    at: usize,
     x: Join,
     value: usize,
     only_if: bool,
-) -> Out
-    requires { ⌜ Represented (now nodes) (λ t s. JoinIn t x value) (memory (now store) (now log) o) ⌝ }
+) -> usize
+    requires { ⌜ Represented (now nodes) (λ t s. JoinIn t x value) (memory (now store) (now log) at) ⌝ }
     ensures { λ r. ⌜ Simulates (now (nodes .entry)) (λ t s. JoinIn t x value)
         (λ t s. each (writeClause t) (clausesOf t (request (x .node) value (direction «only_if»))) s)
-        (memory (now (store .entry)) (now (log .entry)) o) (memory (now (store .exit)) (now (log .exit)) r) ⌝ }
+        (memory (now (store .entry)) (now (log .entry)) at) (memory (now (store .exit)) (now (log .exit)) r) ⌝ }
 {
     let l = x.left;
     let r = x.right;
@@ -250,7 +242,7 @@ pub fn write_clauses(
     let low = least(sum, r.len);
     let high = greatest(sum, l.len);
     let long = are_long(x);
-    let mut p = o;
+    let mut p = at;
     for a in low..high + 1 {
         let i = left_value(a, only_if);
         p = write_split(nodes, store, log, p, x, value, i, value - a, only_if, long);

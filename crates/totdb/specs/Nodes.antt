@@ -13,8 +13,8 @@ pub data Node : Type 0 where
   join : List ℕ → ℕ → Side → Side → Node
 
 -- The node of a number; the numbers count from 0.
-unfoldable pub at : List Node → ℕ → Node
-at t n = getD t n (leaf 0)
+unfoldable pub nodeAt : List Node → ℕ → Node
+nodeAt t n = getD t n (leaf 0)
 
 -- The literals whose true ones a node counts.
 unfoldable pub leaves : Node → List ℕ
@@ -65,13 +65,13 @@ abbrev pub lengthOver : Side → ℕ → ℕ
 lengthOver s n = limited (s .limit) (n - s .offset)
 
 unfoldable pub sideLen : List Node → Side → ℕ
-unfolding at len limited
-sideLen t s = lengthOver s (len (at t (s .node)))
+unfolding nodeAt len limited
+sideLen t s = lengthOver s (len (nodeAt t (s .node)))
 
 -- The a-th literal is the node's output f + a.
 unfoldable pub sideLit : List Node → Side → ℕ → ℕ
-unfolding at output
-sideLit t s a = output (at t (s .node)) (s .offset + a)
+unfolding nodeAt output
+sideLit t s a = output (nodeAt t (s .node)) (s .offset + a)
 
 -- The value by which the definition of its a-th value is looked up: a value at or below the offset is keyed 0.
 unfoldable pub keyed : Side → ℕ → ℕ
@@ -79,8 +79,8 @@ keyed s zero = 0
 keyed s (suc a) = s .offset + suc a
 
 unfoldable pub sideOutputs : List Node → Side → List ℕ
-unfolding at outputs sideLen
-sideOutputs t s = outputs (at t (s .node)) (s .offset) (sideLen t s)
+unfolding nodeAt outputs sideLen
+sideOutputs t s = outputs (nodeAt t (s .node)) (s .offset) (sideLen t s)
 
 -- By offset and limit: the first where the side is plain, the second where it is a window.
 unfoldable pub plainOr : {A : Type 0} → ℕ → ℕ → A → A → A
@@ -90,8 +90,8 @@ plainOr (suc f) k a b = b
 
 -- A plain side gives its node's leaf list, a window its own outputs.
 unfoldable pub sideLeaves : List Node → Side → List ℕ
-unfolding at leaves sideOutputs plainOr
-sideLeaves t s = plainOr (s .offset) (s .limit) (leaves (at t (s .node))) (sideOutputs t s)
+unfolding nodeAt leaves sideOutputs plainOr
+sideLeaves t s = plainOr (s .offset) (s .limit) (leaves (nodeAt t (s .node))) (sideOutputs t s)
 
 -- The join of two sides, its outputs on the variables from o up.
 unfoldable pub joined : List Node → ℕ → Side → Side → Node

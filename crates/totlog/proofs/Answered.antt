@@ -16,10 +16,10 @@ use Rattle.answer.specs.declared.Answer.{Answer}
 use Rattle.totlog.specs.declared.PlayEnd.{PlayEnd}
 
 module _ {h : Head} {c : ℕ} {cs : Commands} {log : List ℕ} {r : PlayEnd} (f : Finished h c cs log r) where
-  pub finished-step : h .step ≤ r .totals .out .step
+  pub finished-step : h .step ≤ r .totals .step
   finished-step = omega (arith, f .reported .step, f .counted)
 
-  pub finished-at : r .totals .out .at ≤ c
+  pub finished-at : r .totals .at ≤ c
   finished-at = omega (arith, f .reported .used, f .fits)
 
   pub finished-nodes : r .totals .nodes ≤ mostNodes
@@ -28,7 +28,7 @@ module _ {h : Head} {c : ℕ} {cs : Commands} {log : List ℕ} {r : PlayEnd} (f 
   answer-is : answerAfter (h .step) r ≡ answerOf (outcome c (r .number) (r .place) (f .state))
   unfolding outcome
   answer-is =
-      let k : r .totals .out .step - h .step ≡ steps (f .state .log) = omega (arith, f .reported .step, f .counted) in
+      let k : r .totals .step - h .step ≡ steps (f .state .log) = omega (arith, f .reported .step, f .counted) in
       rw (k, f .reported .used, f .reported .clauses, f .reported .nodes)
 
   front-is : take (length (bytes (f .state .log))) log ≡ take (length (bytes (f .state .log))) (outcome c (r .number) (r .place) (f .state) .log)

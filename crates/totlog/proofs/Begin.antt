@@ -1,19 +1,21 @@
--- What a play begins with: a table of no nodes, a store of zeros, and a log of which nothing is written.
+-- What a play begins with: a table of no nodes, a store of zeros but for the first step, and a log of which nothing is written.
 use mathlib.Core.Path.{_≡_, refl, sym, _∙_, ap}
 use mathlib.Core.List.{List, [], List·Memᴰ·not-nil}
 use Prim.Native.Nat.{ℕ, zero, suc, _+_, _≤_, _<_}
 use native.Mathlib.Omega.{arith}
-use lib.ListN.{length, getD, replicate, length-replicate}
-use Rattle.sizes.specs.Sizes.{rowAt, storeAt}
+use lib.ListN.{length, getD, set, replicate, length-replicate, length-set}
+use lib.Seq.{getD-set-same, getD-set-other}
+use Rattle.sizes.specs.Sizes.{rowAt, marksAt, stepAt, clausesAt, storeAt}
 use Rattle.record.specs.Record.{bytes, steps, clauses}
 use Rattle.record.specs.Writing.{content, buffer, written}
 use Rattle.record.proofs.Writing.{content-in}
 use Rattle.totdb.specs.Nodes.{leafCount}
+use Rattle.cert.specs.Definitions.{Key, real, window-zero, window}
 use Rattle.cert.specs.State.{Head, start, keys, fromIn}
 use Rattle.cert.proofs.Tables.{sized-nil}
 use Rattle.rows.specs.Windows.{SideAt, left-at, right-at}
 use Rattle.rows.specs.Rows.{leafColumn, Table}
-use Rattle.define.specs.Store.{slot}
+use Rattle.define.specs.Store.{Used}
 use Rattle.define.specs.Represents.{memory, Exact}
 use Rattle.player.proofs.Formed.{formed-start, head-low}
 use Rattle.commands.specs.Standing.{Standing, Room}
@@ -60,33 +62,57 @@ zeros-in n = ap (λ (k : ℕ). replicate {A = ℕ} k 0) (sym (length-replicate {
 
 -- ---- a play begins
 
+no-key : (k : Key) → Used [] k → ⊥
+unfolding Used
+no-key (real n v) u = omega (arith, u .0)
+no-key (window-zero n f m) u = no-side (u .of)
+no-key (window n f m) u = no-side (u .of)
+
 abbrev pub begin : Head → Totals
-begin h = record { out = record { at = 0; marks = 0; step = h .step; clauses = 0 }; nodes = 0; leaves = 0; variable = h .variable }
+begin h = record { at = 0; step = h .step; clauses = 0; nodes = 0; leaves = 0; variable = h .variable }
 
 module _ {script : List ℕ} {from : ℕ} {log : List ℕ} {h : Head} {ns store : List ℕ} (l : Lent script from log h)
     (rows : Rows (length script) ns store) (zeros : store ≡ replicate (length store) 0) where
+  -- The store, with the first step.
+  abbrev begun : List ℕ
+  begun = set store stepAt (h .step)
+
+  pub rows-begun : Rows (length script) ns begun
+  rows-begun = record {
+    room = λ leaves joins m.
+        let r = rows .room leaves joins m in
+        record { row = r .row; store-row = omega (arith, r .store-row, length-set store stepAt (h .step)) };
+  }
+
   -- The script has its head, and so a byte.
-  first : Room ns store 0
+  pub first : Room ns store 0
   first = rows .room 0 0 (record { few-leaves = omega arith; few = omega arith; took = omega (arith, l .headed, l .inside) })
 
-  blank : (i : ℕ) → getD store i 0 ≡ 0
-  blank i = ap (λ (k : List ℕ). getD k i 0) zeros ∙ zero-at (length store) i
+  blank : (i : ℕ) → (i ≡ stepAt → ⊥) → getD begun i 0 ≡ 0
+  blank i e = getD-set-other store stepAt i (h .step) 0 e ∙ ap (λ (k : List ℕ). getD k i 0) zeros ∙ zero-at (length store) i
+
+  no-marks : getD begun marksAt 0 ≡ 0
+  no-marks = blank marksAt (λ e. absurd (omega arith))
 
   nothing-written : content (buffer log 0) ≡ written (bytes (start h .log))
   unfolding start bytes
   nothing-written = content-in log 0 (omega arith)
 
-  exact-start : Exact (length log) [] (memory store log (begin h .out)) (start h)
+  exact-start : Exact (length log) [] (memory begun log 0) (start h)
   unfolding start keys
   exact-start = record {
     small = l .small;
-    logged = record { size = refl; is = unfold start in nothing-written; step = refl; clauses = unfold clauses in refl };
+    logged = record { size = refl; is = unfold start in nothing-written };
     stores = record {
-      room = omega (arith, first .store-row);
-      firsts = record { is = λ k u. blank (slot [] k) ∙ (unfold fromIn in refl) };
-      trail = record { count = refl; is = refl };
+      room = omega (arith, first .store-row, length-set store stepAt (h .step));
+      firsts = record { is = λ k u. absurd (no-key k u) };
+      trail = record { count = no-marks; is = rw no-marks refl };
+      counters = record {
+        step = getD-set-same store stepAt (h .step) 0 (omega (arith, first .store-row));
+        clauses = blank clausesAt (λ e. absurd (omega arith)) ∙ (unfold clauses in refl);
+      };
       holds = record { is = λ n v i. absurd (omega arith) };
-      blank = record { is = λ i b. blank i };
+      blank = record { is = λ i b. blank i (λ e. absurd (omega arith)) };
     };
     consistent = record {
       one = head-low h (l .head) .1;
@@ -100,11 +126,13 @@ module _ {script : List ℕ} {from : ℕ} {log : List ℕ} {h : Head} {ns store 
     };
   }
 
-  pub standing-begin : Standing h (length log) ns (memory store log (begin h .out)) (begin h) (start h)
+  pub standing-begin : Standing h (length log) ns (memory begun log 0) (begin h) (start h)
   standing-begin = record {
     formed = formed-start h (l .head);
     table = unfold start in table-none ns (omega (arith, first .row));
     exact = unfold start in exact-start;
+    step = unfold start in refl;
+    clauses = unfold start clauses in refl;
     nodes = unfold start in refl;
     leaves = unfold start leafCount in refl;
     variable = unfold start in refl;

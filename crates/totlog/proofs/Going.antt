@@ -31,7 +31,7 @@ playsAll h c cs p s = plays h c (cs .ending) (cs .list) p s
 pub record Going (h : Head) (c : ℕ) (script : List ℕ) (cs : Commands) (ns store log : List ℕ) (z : Totals) (at place : ℕ)
     (closed : Bool) : Type 0 where
   pub state : State
-  pub standing : Standing h c ns (memory store log (z .out)) z state
+  pub standing : Standing h c ns (memory store log (z .at)) z state
   pub fuel : ℕ
   pub enough : length script - at ≤ fuel
   pub is : playsAll h c cs 0 (start h) ≡ playsAll h c (readCommands fuel closed (drop at script)) place state

@@ -33,9 +33,9 @@ abbrev pub answerAfter : ℕ → PlayEnd → Answer
 answerAfter step r = record {
   number = r .number;
   place = r .place;
-  length = r .totals .out .at;
-  steps = r .totals .out .step - step;
-  clauses = r .totals .out .clauses;
+  length = r .totals .at;
+  steps = r .totals .step - step;
+  clauses = r .totals .clauses;
   nodes = r .totals .nodes;
 }
 
@@ -84,7 +84,7 @@ pub record Rows (n : ℕ) (ns store : List ℕ) : Type 0 where
 pub record Begun (ns store log : List ℕ) (z : Totals) : Type 0 where
   pub head : Head
   pub capacity : ℕ
-  pub standing : Standing head capacity ns (memory store log (z .out)) z (start head)
+  pub standing : Standing head capacity ns (memory store log (z .at)) z (start head)
 
 -- A play that has ended in a state, which the log and the totals report.
 pub record Finished (h : Head) (c : ℕ) (cs : Commands) (log : List ℕ) (r : PlayEnd) : Type 0 where

@@ -14,7 +14,7 @@ use Rattle.pb.specs.Sum.{units, keep}
 use Rattle.record.specs.Record.{derivation, numbers, sum, tokenNumbers}
 use Rattle.record.specs.Writing.{signed}
 use Rattle.record.proofs.Tokens.{tokens-append}
-use Rattle.totdb.specs.Nodes.{Node, at, output, outputs, range}
+use Rattle.totdb.specs.Nodes.{Node, nodeAt, output, outputs, range}
 use Rattle.memo.proofs.Lists.{flatMap-append}
 use Rattle.totdb.proofs.Listed.{length-range}
 use Rattle.cert.specs.Definitions.{Key, addSequence, atLeastZero, keyRecords, window, windowPair}
@@ -124,15 +124,15 @@ read-range g l f (suc m) h k =
 
 -- What `put_window` writes.
 pub window-is : (row outs : List ℕ) (at-step : Key → ℕ → ℕ) (t : List Node) (n f m : ℕ) → f + m ≤ length outs
-    → Handed row outs at-step n (at t n) f m
-    → flatMap numbers (flatMap (windowPair at-step n (at t n) f m) (range (f + 1) m))
+    → Handed row outs at-step n (nodeAt t n) f m
+    → flatMap numbers (flatMap (windowPair at-step n (nodeAt t n) f m) (range (f + 1) m))
     ++ numbers (sum 0 (units (signed true (take m (drop f outs))) ++ keep 0 0 []) 0)
     ≡ flatMap numbers (keyRecords at-step t (window n f m))
 unfolding flatMap keyRecords atLeastZero outputs signed keep
 window-is row outs at-step t n f m h handed =
     rw (
-      flatMap-append numbers (flatMap (windowPair at-step n (at t n) f m) (range (f + 1) m)),
+      flatMap-append numbers (flatMap (windowPair at-step n (nodeAt t n) f m) (range (f + 1) m)),
       append-nil,
       append-nil,
-      read-range (output (at t n)) outs f m h (handed .literal),
+      read-range (output (nodeAt t n)) outs f m h (handed .literal),
     )

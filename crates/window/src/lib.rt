@@ -7,7 +7,7 @@ ghost use lib.ListN.{length};
 ghost use Rattle.sizes.specs.Sizes.{width};
 ghost use Rattle.record.specs.Record.{derivation, numbers, tokenNumbers};
 ghost use Rattle.record.specs.Writing.{buffer, Puts};
-ghost use Rattle.totdb.specs.Nodes.{Node, range};
+ghost use Rattle.totdb.specs.Nodes.{Node, nodeAt, range};
 ghost use Rattle.cert.specs.Definitions.{Key, keyRecords, window, windowIf, windowOnlyIf, windowPair};
 ghost use Rattle.window.specs.Window.{added, addedRoom, Bounds, derivationRoom, firstOther, Handed, summand, summandRoom, tokensOf, WindowValue};
 
@@ -268,7 +268,7 @@ pub fn put_window(
 ) -> usize
     requires { ⌜ Bounds (now row) (now outputs) offset len ⌝ }
     ensures { λ r. ⌜ ((at-step : Key → ℕ → ℕ) (t : List Node) (n : ℕ)
-        → Handed (now (row .entry)) (now (outputs .entry)) at-step n (Rattle.totdb.specs.Nodes.at t n) offset len
+        → Handed (now (row .entry)) (now (outputs .entry)) at-step n (nodeAt t n) offset len
         → Puts (buffer (now (log .entry)) at) (flatMap numbers (keyRecords at-step t (window n offset len))) (buffer (now (log .exit)) r)) ⌝ }
 {
     let after_values = put_values(row, outputs, log, at, offset, len);

@@ -1,6 +1,6 @@
 -- `answer::bytes` meets its contract: byte by byte.
 use mathlib.Core.Path.{_≡_, refl}
-use mathlib.Core.List.{List, [], _∷_, _++_}
+use mathlib.Core.List.{List, _∷_, _++_}
 use Prim.Native.Nat.{ℕ, _/_, _%_}
 use native.Mathlib.Omega.{arith}
 use borrow.Author.Needs.{needs}

@@ -17,8 +17,8 @@ look-up-side-requires-2 c κs =
     let p = first .before .before .before .before .before .before .pre in
     represented-to (λ t s l k. right-in k) (represented-after (λ t s l k. left-in k) (first .look-up-side .ensures (direction (not (p .0)))) (p .1))
 
-look-up-real-requires : tie.Need-look-up-real-requires
-look-up-real-requires c κs =
+look-up-this-requires : tie.Need-look-up-this-requires
+look-up-this-requires c κs =
     let second = c .before .before .before .before .before .before in
     let first = second .before .before .before .before .before .before .before in
     let p = first .before .before .before .before .before .before .pre in
@@ -38,7 +38,7 @@ returns c =
     let third = c .before .before .before .before in
     let second = third .before .before .before .before .before .before .before in
     let first = second .before .before .before .before .before .before .before in
-    λ b. sims-looks (first .look-up-side .ensures (direction (not b))) (second .look-up-side2 .ensures (direction (not b))) (third .look-up-real .ensures)
+    λ b. sims-looks (first .look-up-side .ensures (direction (not b))) (second .look-up-side2 .ensures (direction (not b))) (third .look-up-this .ensures)
 
 pub look-up-each-spec : {M : Type 1} → statement M
 look-up-each-spec =
@@ -46,7 +46,7 @@ look-up-each-spec =
     (tie.spec
     look-up-side-requires
     look-up-side-requires-2
-    look-up-real-requires
+    look-up-this-requires
     same-length
     same-length-2
     returns)

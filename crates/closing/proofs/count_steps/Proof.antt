@@ -1,9 +1,9 @@
--- `closing::count_steps` meets its contract: the column of the place says which definition stands there.
+-- `closing::count_steps` meets its contract: the column of the slot says which definition stands there.
 use mathlib.Core.Path.{sym, ap, _∙_}
 use Prim.Native.Nat.{ℕ}
 use native.Mathlib.Omega.{arith}
 use lib.ListN.{getD}
-use Rattle.totdb.specs.Nodes.{at}
+use Rattle.totdb.specs.Nodes.{nodeAt}
 use Rattle.rows.proofs.Reading.{len-is}
 use Rattle.closing.proofs.Counting.{nodeOf, place-there, place-row, real-case, window-case, zero-case}
 use borrow.Author.Needs.{needs}
@@ -31,7 +31,7 @@ returns c =
     let a = row .before .before .args in (
       (λ t k s.
           let length = c .before .number-at .ensures .0 ∙ ap (λ (x : ℕ). getD (a .nodes .now) x 0) (row .row-at .ensures) ∙ len-is (s .table) _ (place-there s .1) in
-          c .count-real .ensures .0 (at t (nodeOf (a .place))) (sym length) ∙ real-case k s (c .before .before .if1 .taken)),
+          c .count-real .ensures .0 (nodeAt t (nodeOf (a .slot))) (sym length) ∙ real-case k s (c .before .before .if1 .taken)),
       omega (arith, c .count-real .ensures .1),
     )
 

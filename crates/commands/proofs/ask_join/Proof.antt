@@ -12,48 +12,38 @@ use Rattle.commands.proofs.fits.Reads as fits-reads
 use Rattle.nodes.proofs.len.Reads as len-reads
 use Rattle.nodes.proofs.taken.Reads as taken-reads
 
--- src/lib.rt:102:9
 returns : tie.Need-returns
 returns c = λ h t r e. let a = c .before .before .before .args in sym (join-left h t (a .l) (a .r) (omega arith))
 
--- src/lib.rt:105:9
 returns-2 : tie.Need-returns-2
 returns-2 c = λ h t r e. let a = c .before .before .before .before .before .args in sym (join-right h t (a .l) (a .r) (omega arith) (omega arith))
 
--- src/lib.rt:108:9
 returns-3 : tie.Need-returns-3
 returns-3 c = λ h t r e. let a = c .before .before .before .before .before .before .before .before .args in sym (join-same h t (a .l) (a .r) (omega arith) (omega arith) (omega arith))
 
--- src/lib.rt:110:8
 taken-requires : tie.Need-taken-requires
 taken-requires c κs = search needs
 
--- src/lib.rt:111:9
 returns-4 : tie.Need-returns-4
 returns-4 c = λ h t r e.
     let a = c .before .before .before .before .before .before .before .before .before .before .args in
     sym (join-left-taken h t (a .l) (a .r) (omega arith) (omega arith) (c .before .before .if3 .left) (sym (c .before .taken .ensures t r (omega arith)) ∙ c .if4 .taken))
 
--- src/lib.rt:113:8
 taken-requires-2 : tie.Need-taken-requires-2
 taken-requires-2 c κs = search needs
 
--- src/lib.rt:114:9
 returns-5 : tie.Need-returns-5
 returns-5 c = λ h t r e.
     let a = c .before .before .before .before .before .before .before .before .before .before .before .before .args in
     sym (join-right-taken h t (a .l) (a .r) (omega arith) (omega arith) (c .before .before .before .before .if3 .left) (sym (c .before .before .before .taken .ensures t r (omega arith)) ∙ c .before .before .if4 .left)
     (sym (c .before .taken2 .ensures t r (omega arith)) ∙ c .if5 .taken))
 
--- src/lib.rt:116:17
 len-requires : tie.Need-len-requires
 len-requires c κs = search needs
 
--- src/lib.rt:116:9
 fits-requires : tie.Need-fits-requires
 fits-requires c κs = search needs
 
--- src/lib.rt:117:9
 returns-6 : tie.Need-returns-6
 returns-6 c = λ h t r e.
     let a = c .before .before .before .before .before .before .before .before .before .before .before .before .before .before .before .args in
@@ -61,15 +51,12 @@ returns-6 c = λ h t r e.
     (sym (c .before .before .before .before .taken2 .ensures t r (omega arith)) ∙ c .before .before .before .if5 .left)
     (side-fits t (a .l) (c .before .before .len .result) (c .before .before .len .ensures t r (omega arith)) false (sym (c .before .fits2 .ensures) ∙ not-true _ (c .if6 .taken))))
 
--- src/lib.rt:119:17
 len-requires-2 : tie.Need-len-requires-2
 len-requires-2 c κs = search needs
 
--- src/lib.rt:119:9
 fits-requires-2 : tie.Need-fits-requires-2
 fits-requires-2 c κs = search needs
 
--- src/lib.rt:120:9
 returns-7 : tie.Need-returns-7
 returns-7 c = λ h t r e.
     let a = c .before .before .before .before .before .before .before .before .before .before .before .before .before .before .before .before .before .before .args in
@@ -78,7 +65,6 @@ returns-7 c = λ h t r e.
     (side-fits t (a .l) (c .before .before .before .before .before .len .result) (c .before .before .before .before .before .len .ensures t r (omega arith)) true (sym (c .before .before .before .before .fits2 .ensures) ∙ not-false _ (c .before .before .before .if6 .left)))
     (side-fits t (a .r) (c .before .before .len2 .result) (c .before .before .len2 .ensures t r (omega arith)) false (sym (c .before .fits3 .ensures) ∙ not-true _ (c .if7 .taken))))
 
--- src/lib.rt:97:1
 returns-8 : tie.Need-returns-8
 returns-8 c = λ h t r e.
     let a = c .before .before .before .before .before .before .before .before .before .before .before .before .before .before .before .before .before .before .args in

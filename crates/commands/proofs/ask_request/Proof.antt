@@ -9,40 +9,33 @@ use Rattle.commands.proofs.ask_request.Reads as reads
 use Rattle.commands.proofs.ask_request.Lts as lts
 use Rattle.nodes.proofs.len.Reads as len-reads
 
--- src/lib.rt:181:9
 returns : tie.Need-returns
 returns c = λ h t r e. let a = c .before .before .args in sym (request-8 h t (a .node) (a .value) (a .direction) (omega arith))
 
--- src/lib.rt:184:9
 returns-2 : tie.Need-returns-2
 returns-2 c = λ h t r e. let a = c .before .before .before .args in sym (request-zero h t (a .node) (a .value) (a .direction) (omega arith) (omega arith))
 
--- src/lib.rt:186:8
 len-requires : tie.Need-len-requires
 len-requires c κs = search needs
 
--- src/lib.rt:187:9
 returns-3 : tie.Need-returns-3
 returns-3 c = λ h t r e.
     let a = c .before .before .before .before .before .args in
     let k = c .before .len .ensures t r (omega arith) in
     sym (value-above h t (a .node) (omega arith) (a .value) (a .direction) (omega arith))
 
--- src/lib.rt:190:9
 returns-4 : tie.Need-returns-4
 returns-4 c = λ h t r e.
     let a = c .before .before .before .before .before .before .args in
     let k = c .before .before .len .ensures t r (omega arith) in
     sym (request-none h t (a .node) (a .value) (a .direction) (omega arith) (omega arith) (omega arith) (omega arith))
 
--- src/lib.rt:193:9
 returns-5 : tie.Need-returns-5
 returns-5 c = λ h t r e.
     let a = c .before .before .before .before .before .before .before .args in
     let k = c .before .before .before .len .ensures t r (omega arith) in
     sym (request-many h t (a .node) (a .value) (a .direction) (omega arith) (omega arith) (omega arith) (omega arith) (omega arith))
 
--- src/lib.rt:175:1
 returns-6 : tie.Need-returns-6
 returns-6 c = λ h t r e.
     let a = c .before .before .before .before .before .before .before .args in

@@ -8,43 +8,33 @@ use Rattle.commands.proofs.join.Reads as join-reads
 use Rattle.commands.proofs.leaf.Reads as leaf-reads
 use Rattle.commands.proofs.request.Reads as request-reads
 
--- src/lib.rt:258:23
 enum-known-k : tie.Need-enum-known-k
 enum-known-k c = search needs
 
--- src/lib.rt:258:35
 leaf-requires : tie.Need-leaf-requires
 leaf-requires c κs = let start = c .before .before .before .before .before .before .before in (start .args .store .now, start .args .log .now, start .pre .0, start .pre .1)
 
--- src/lib.rt:259:23
 enum-known-k-2 : tie.Need-enum-known-k-2
 enum-known-k-2 c = search needs
 
--- src/lib.rt:259:32
 join-requires : tie.Need-join-requires
 join-requires c κs = search needs
 
--- src/lib.rt:260:26
 enum-known-k-3 : tie.Need-enum-known-k-3
 enum-known-k-3 c = search needs
 
--- src/lib.rt:260:53
 request-requires : tie.Need-request-requires
 request-requires c κs = search needs
 
--- src/lib.rt:269:33
 enum-told : tie.Need-enum-told
 enum-told c = search needs
 
--- src/lib.rt:269:27
 close-requires : tie.Need-close-requires
 close-requires c κs = search needs
 
--- src/lib.rt:244:1
 same-length : tie.Need-same-length
 same-length c = search needs
 
--- src/lib.rt:244:1
 returns : tie.Need-returns
 returns c =
     let start = c .before .before .before .before .before .before .before .before .before .before in
@@ -52,11 +42,9 @@ returns c =
     λ h p s e st.
     rw (c .before .before .before .before .before .k .given .1) (c .before .before .leaf .ensures h p (a .store .now) (a .log .now) s e st (start .pre .0 .room))
 
--- src/lib.rt:244:1
 same-length-2 : tie.Need-same-length-2
 same-length-2 c = search needs
 
--- src/lib.rt:244:1
 returns-2 : tie.Need-returns-2
 returns-2 c =
     let start = c .before .before .before .before .before .before .before .before .before .before in
@@ -64,36 +52,28 @@ returns-2 c =
     λ h p s e st.
     rw (c .before .before .before .before .before .k2 .given .1) (c .before .before .join .ensures h p (a .store .now) (a .log .now) s st (start .pre .0 .room))
 
--- src/lib.rt:244:1
 same-length-3 : tie.Need-same-length-3
 same-length-3 c = search needs
 
--- src/lib.rt:244:1
 same-length-4 : tie.Need-same-length-4
 same-length-4 c = search needs
 
--- src/lib.rt:244:1
 same-length-5 : tie.Need-same-length-5
 same-length-5 c = search needs
 
--- src/lib.rt:244:1
 returns-3 : tie.Need-returns-3
 returns-3 c =
     λ h p s e st. rw (c .before .before .before .before .before .before .before .before .before .k3 .given .1) (c .before .before .before .before .request .ensures h p s st)
 
--- src/lib.rt:244:1
 same-length-6 : tie.Need-same-length-6
 same-length-6 c = search needs
 
--- src/lib.rt:244:1
 same-length-7 : tie.Need-same-length-7
 same-length-7 c = search needs
 
--- src/lib.rt:244:1
 same-length-8 : tie.Need-same-length-8
 same-length-8 c = search needs
 
--- src/lib.rt:244:1
 returns-4 : tie.Need-returns-4
 returns-4 c =
     λ h p s e st. rw (c .before .before .before .before .before .before .enum-told .given .1) (c .before .before .close .ensures h p s st)

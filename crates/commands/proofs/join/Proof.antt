@@ -12,15 +12,12 @@ use Rattle.commands.proofs.join.Lts as lts
 use Rattle.commands.proofs.ask_join.Reads as ask-join-reads
 use Rattle.nodes.proofs.add_join.Reads as add-join-reads
 
--- src/lib.rt:131:9
 ask-join-requires : tie.Need-ask-join-requires
 ask-join-requires c κs = let r = c .before .before .pre .2 in (r .state .nodes, r .standing .table, sym (r .standing .nodes))
 
--- src/lib.rt:133:9
 same-length : tie.Need-same-length
 same-length c = search needs
 
--- src/lib.rt:133:9
 returns : tie.Need-returns
 returns c =
     λ h p store log s st room.
@@ -28,7 +25,6 @@ returns c =
     refused-early st (Command.Join (a .l) (a .r)) (c .before .ask-join .result) (omega (arith, c .if1 .taken))
     (sym (c .before .ask-join .ensures h (s .nodes) (st .table) (sym (st .nodes)))) _ refl refl
 
--- src/lib.rt:138:9
 add-join-requires : tie.Need-add-join-requires
 add-join-requires c κs =
     let start = c .before .before .before .before .before in
@@ -39,13 +35,22 @@ add-join-requires c κs =
     let j = joinable st (a .l) (a .r) asked in
     (omega (arith, r .room .row), (r .state .nodes, j))
 
--- src/lib.rt:142:16
-add-t14 : tie.Need-add-t14
-add-t14 c = search needs
+add-t13 : tie.Need-add-t13
+add-t13 c = search needs
 
--- src/lib.rt:144:32
-cast-t15 : tie.Need-cast-t15
-cast-t15 c =
+cast-t14 : tie.Need-cast-t14
+cast-t14 c =
+    let start = c .before .before .before .before .before .before .before .before .before in
+    let a = start .args in
+    let r = start .pre .2 in
+    let st = r .standing in
+    let asked = sym (c .before .before .before .before .before .before .ask-join .ensures (r .head) (r .state .nodes) (st .table) (sym (st .nodes))) ∙ c .before .before .before .before .before .if1 .left in
+    let j = joinable st (a .l) (a .r) asked in
+    let e = c .before .before .before .add-join .ensures (r .state .nodes) j .0 in
+    omega (arith, e, joined-short st (a .l) (a .r) asked (a .t .variable))
+
+add-t15 : tie.Need-add-t15
+add-t15 c =
     let start = c .before .before .before .before .before .before .before .before .before .before in
     let a = start .args in
     let r = start .pre .2 in
@@ -53,33 +58,19 @@ cast-t15 c =
     let asked = sym (c .before .before .before .before .before .before .before .ask-join .ensures (r .head) (r .state .nodes) (st .table) (sym (st .nodes))) ∙ c .before .before .before .before .before .before .if1 .left in
     let j = joinable st (a .l) (a .r) asked in
     let e = c .before .before .before .before .add-join .ensures (r .state .nodes) j .0 in
-    omega (arith, e, joined-short st (a .l) (a .r) asked (a .t .variable))
-
--- src/lib.rt:144:19
-add-t16 : tie.Need-add-t16
-add-t16 c =
-    let start = c .before .before .before .before .before .before .before .before .before .before .before in
-    let a = start .args in
-    let r = start .pre .2 in
-    let st = r .standing in
-    let asked = sym (c .before .before .before .before .before .before .before .before .ask-join .ensures (r .head) (r .state .nodes) (st .table) (sym (st .nodes))) ∙ c .before .before .before .before .before .before .before .if1 .left in
-    let j = joinable st (a .l) (a .r) asked in
-    let e = c .before .before .before .before .before .add-join .ensures (r .state .nodes) j .0 in
     let k = joined-short st (a .l) (a .r) asked (a .t .variable) in
     omega (arith, e, k, j .low)
 
--- src/lib.rt:126:1
 same-length-2 : tie.Need-same-length-2
 same-length-2 c = search needs
 
--- src/lib.rt:126:1
 returns-2 : tie.Need-returns-2
 returns-2 c =
     λ h p store log s st room.
-    let a = c .before .before .before .before .before .before .before .before .before .before .before .args in
-    let asked = sym (c .before .before .before .before .before .before .before .before .ask-join .ensures h (s .nodes) (st .table) (sym (st .nodes))) ∙ c .before .before .before .before .before .before .before .if1 .left in
-    let added = c .before .before .before .before .before .add-join .ensures (s .nodes) (joinable st (a .l) (a .r) asked) in
-    join-made st (a .l) (a .r) asked room _ (added .1) _ refl refl refl refl (ap (λ k. a .t .variable + k) (added .0))
+    let a = c .before .before .before .before .before .before .before .before .before .before .args in
+    let asked = sym (c .before .before .before .before .before .before .before .ask-join .ensures h (s .nodes) (st .table) (sym (st .nodes))) ∙ c .before .before .before .before .before .before .if1 .left in
+    let added = c .before .before .before .before .add-join .ensures (s .nodes) (joinable st (a .l) (a .r) asked) in
+    join-made st (a .l) (a .r) asked room _ (added .1) _ refl refl refl refl refl refl (ap (λ k. a .t .variable + k) (added .0))
 
 pub join-spec : {M : Type 1} → statement M
 join-spec =
@@ -89,8 +80,8 @@ join-spec =
     same-length
     returns
     add-join-requires
-    add-t14
-    cast-t15
-    add-t16
+    add-t13
+    cast-t14
+    add-t15
     same-length-2
     returns-2)

@@ -16,22 +16,18 @@ use Rattle.nodes.proofs.add_leaf.Reads as add-leaf-reads
 use Rattle.nodes.proofs.known.Reads as known-reads
 use Rattle.pb.proofs.neg.Reads as neg-reads
 
--- src/lib.rt:40:9
 returns : tie.Need-returns
 returns c =
     λ h p store log s e st room.
     let a = c .before .before .args in
     refused-early st (Command.Leaf (a .literal)) 6 (omega arith) (leaf-6 h (s .nodes) (a .literal) (unfold variable in omega arith)) _ refl refl
 
--- src/lib.rt:45:8
 known-requires : tie.Need-known-requires
 known-requires c κs = let r = c .before .before .before .pre .2 in (r .state .nodes, r .standing .table, sym (r .standing .leaves))
 
--- src/lib.rt:46:9
 same-length : tie.Need-same-length
 same-length c = search needs
 
--- src/lib.rt:46:9
 returns-2 : tie.Need-returns-2
 returns-2 c =
     λ h p store log s e st room.
@@ -39,19 +35,15 @@ returns-2 c =
     let there = sym (c .before .known .ensures (s .nodes) (st .table) (sym (st .leaves))) ∙ c .if2 .taken in
     leaf-there st (a .literal) (leaf-known h (s .nodes) (a .literal) (unfold variable in omega arith) there) there _ refl refl
 
--- src/lib.rt:51:38
 neg-requires : tie.Need-neg-requires
 neg-requires c κs = search needs
 
--- src/lib.rt:51:8
 known-requires-2 : tie.Need-known-requires-2
 known-requires-2 c κs = let r = c .before .before .before .before .before .before .before .pre .2 in (r .state .nodes, r .standing .table, sym (r .standing .leaves))
 
--- src/lib.rt:52:9
 same-length-2 : tie.Need-same-length-2
 same-length-2 c = search needs
 
--- src/lib.rt:52:9
 returns-3 : tie.Need-returns-3
 returns-3 c =
     λ h p store log s e st room.
@@ -61,11 +53,9 @@ returns-3 c =
     refused-early st (Command.Leaf (a .literal)) 7 (omega arith)
     (leaf-negated h (s .nodes) (a .literal) (unfold variable in omega arith) new (rw (c .before .before .neg .ensures) at negated)) _ refl refl
 
--- src/lib.rt:58:9
 same-length-3 : tie.Need-same-length-3
 same-length-3 c = search needs
 
--- src/lib.rt:58:9
 returns-4 : tie.Need-returns-4
 returns-4 c =
     λ h p store log s e st room.
@@ -75,7 +65,6 @@ returns-4 c =
     refused-early st (Command.Leaf (a .literal)) 7 (omega arith)
     (leaves-full h (s .nodes) (a .literal) (unfold variable in omega arith) new (rw (c .before .before .before .before .neg .ensures) at negated) (omega (arith, st .leaves))) _ refl refl
 
--- src/lib.rt:63:5
 add-leaf-requires : tie.Need-add-leaf-requires
 add-leaf-requires c κs =
     let start = c .before .before .before .before .before .before .before .before .before .before .before .before in
@@ -86,30 +75,26 @@ add-leaf-requires c κs =
     let j = leafable st (a .literal) below (omega (arith, c .before .if4 .left)) in
     (omega (arith, r .room .row), (r .state .nodes, j))
 
--- src/lib.rt:67:16
+add-t17 : tie.Need-add-t17
+add-t17 c = search needs
+
 add-t18 : tie.Need-add-t18
 add-t18 c = search needs
 
--- src/lib.rt:68:17
-add-t19 : tie.Need-add-t19
-add-t19 c = search needs
-
--- src/lib.rt:33:1
 same-length-4 : tie.Need-same-length-4
 same-length-4 c = search needs
 
--- src/lib.rt:33:1
 returns-5 : tie.Need-returns-5
 returns-5 c =
     λ h p store log s e st room.
-    let a = c .before .before .before .before .before .before .before .before .before .before .before .before .before .before .before .before .before .before .args in
-    let below : variable (a .literal) < h .variable = unfold variable in omega (arith, e, c .before .before .before .before .before .before .before .before .before .before .before .before .before .before .before .before .if1 .left) in
-    let new = sym (c .before .before .before .before .before .before .before .before .before .before .before .before .before .before .known .ensures (s .nodes) (st .table) (sym (st .leaves))) ∙ c .before .before .before .before .before .before .before .before .before .before .before .before .before .if2 .left in
-    let negated = sym (c .before .before .before .before .before .before .before .before .before .before .known2 .ensures (s .nodes) (st .table) (sym (st .leaves))) ∙ c .before .before .before .before .before .before .before .before .before .if3 .left in
-    let added = c .before .before .before .before .before .add-leaf .ensures (s .nodes) (leafable st (a .literal) below (omega (arith, c .before .before .before .before .before .before .before .if4 .left))) in
+    let a = c .before .before .before .before .before .before .before .before .before .before .before .before .before .before .before .before .before .args in
+    let below : variable (a .literal) < h .variable = unfold variable in omega (arith, e, c .before .before .before .before .before .before .before .before .before .before .before .before .before .before .before .if1 .left) in
+    let new = sym (c .before .before .before .before .before .before .before .before .before .before .before .before .before .known .ensures (s .nodes) (st .table) (sym (st .leaves))) ∙ c .before .before .before .before .before .before .before .before .before .before .before .before .if2 .left in
+    let negated = sym (c .before .before .before .before .before .before .before .before .before .known2 .ensures (s .nodes) (st .table) (sym (st .leaves))) ∙ c .before .before .before .before .before .before .before .before .if3 .left in
+    let added = c .before .before .before .before .add-leaf .ensures (s .nodes) (leafable st (a .literal) below (omega (arith, c .before .before .before .before .before .before .if4 .left))) in
     leaf-made st (a .literal)
-    (leaves-few h (s .nodes) (a .literal) below new (rw (c .before .before .before .before .before .before .before .before .before .before .before .neg .ensures) at negated) (omega (arith, st .leaves, c .before .before .before .before .before .before .before .if4 .left))) new
-    room _ added _ refl refl refl refl refl
+    (leaves-few h (s .nodes) (a .literal) below new (rw (c .before .before .before .before .before .before .before .before .before .before .neg .ensures) at negated) (omega (arith, st .leaves, c .before .before .before .before .before .before .if4 .left))) new
+    room _ added _ refl refl refl refl refl refl refl
 
 pub leaf-spec : {M : Type 1} → statement M
 leaf-spec =
@@ -126,7 +111,7 @@ leaf-spec =
     same-length-3
     returns-4
     add-leaf-requires
+    add-t17
     add-t18
-    add-t19
     same-length-4
     returns-5)

@@ -15,24 +15,24 @@ use Rattle.define.proofs.define_window.Tie as tie
 
 returns : tie.Need-returns
 returns c =
-    let a = c .before .before .before .before .before .args in
-    λ ns. sims-full {m = memory (a .store .now) (a .log .now) (a .o)} (define-grows (window (a .s .side .node) (a .s .side .offset) (a .s .len))) (c .if1 .taken)
+    let a = c .before .before .before .before .args in
+    λ ns. sims-full {m = memory (a .store .now) (a .log .now) (a .at)} (define-grows (window (a .s .side .node) (a .s .side .offset) (a .s .len))) (c .if1 .taken)
 
 store-at-requires : tie.Need-store-at-requires
 store-at-requires c κs =
-    let p = c .before .before .before .before .before .before .pre .1 in
+    let p = c .before .before .before .before .before .pre .1 in
     let b = window-bounds (p .table .bounded) (p .represents) (p .holds .0 .window) in
     omega (arith, b .nodes)
 
 add-put-window : tie.Need-add-put-window
 add-put-window c =
-    let p = c .before .before .before .before .before .before .before .pre .1 in
+    let p = c .before .before .before .before .before .before .pre .1 in
     let b = window-bounds (p .table .bounded) (p .represents) (p .holds .0 .window) in
     omega (arith, b .nodes, c .store-at .ensures)
 
 mul-put-window : tie.Need-mul-put-window
 mul-put-window c =
-    let p = c .before .before .before .before .before .before .before .pre .1 in
+    let p = c .before .before .before .before .before .before .pre .1 in
     let b = window-bounds (p .table .bounded) (p .represents) (p .holds .0 .window) in
     omega (arith, b .nodes, c .store-at .ensures)
 
@@ -44,7 +44,7 @@ part-put-window-start c = search needs
 
 part-put-window-end : tie.Need-part-put-window-end
 part-put-window-end c =
-    let p = c .before .before .before .before .before .before .before .before .pre .1 in
+    let p = c .before .before .before .before .before .before .before .pre .1 in
     let b = window-bounds (p .table .bounded) (p .represents) (p .holds .0 .window) in
     omega (arith, b .room, c .before .store-at .ensures)
 
@@ -52,36 +52,36 @@ put-window-requires : tie.Need-put-window-requires
 put-window-requires c κs =
     let place = c .before .before .before in
     let else = place .before .before in
-    let p = else .before .before .before .before .before .pre .1 in
+    let p = else .before .before .before .before .pre .1 in
     bounds-of (p .table .bounded) (exact-of (else .if1 .left) (p .represents)) (p .holds .0) (place .store-at .ensures)
 
 add-store-key : tie.Need-add-store-key
 add-store-key c =
-    let p = c .before .before .before .before .before .before .before .before .before .before .before .before .before .before .before .pre .1 in
+    let p = c .before .before .before .before .before .before .before .before .before .before .before .before .before .before .pre .1 in
     let b = window-bounds (p .table .bounded) (p .represents) (p .holds .0 .window) in
     omega (arith, b .small)
 
 cast-store-key : tie.Need-cast-store-key
 cast-store-key c =
-    let p = c .before .before .before .before .before .before .before .before .before .before .before .before .before .before .before .pre .1 in
+    let p = c .before .before .before .before .before .before .before .before .before .before .before .before .before .before .pre .1 in
     let b = window-bounds (p .table .bounded) (p .represents) (p .holds .0 .window) in
     omega (arith, b .values)
 
 mul-store-key : tie.Need-mul-store-key
 mul-store-key c =
-    let p = c .before .before .before .before .before .before .before .before .before .before .before .before .before .before .before .pre .1 in
+    let p = c .before .before .before .before .before .before .before .before .before .before .before .before .before .before .pre .1 in
     let b = window-bounds (p .table .bounded) (p .represents) (p .holds .0 .window) in
     omega (arith, b .values)
 
 add-store-key-2 : tie.Need-add-store-key-2
 add-store-key-2 c =
-    let p = c .before .before .before .before .before .before .before .before .before .before .before .before .before .before .before .pre .1 in
+    let p = c .before .before .before .before .before .before .before .before .before .before .before .before .before .before .pre .1 in
     let b = window-bounds (p .table .bounded) (p .represents) (p .holds .0 .window) in
     omega (arith, b .values)
 
 store-key-requires : tie.Need-store-key-requires
 store-key-requires c κs =
-    let p = c .before .before .before .before .before .before .before .before .before .before .before .before .before .before .before .pre .1 in
+    let p = c .before .before .before .before .before .before .before .before .before .before .before .before .before .before .pre .1 in
     let b = window-bounds (p .table .bounded) (p .represents) (p .holds .0 .window) in
     (omega (arith, b .above), b .inside, b .small, omega (arith, b .values))
 
@@ -97,12 +97,12 @@ returns-2 c =
     let put = stored .before .before .before .before .before in
     let place = put .before .before .before .before in
     let else = place .before .before in
-    let start = else .before .before .before .before .before in
+    let start = else .before .before .before .before in
     let a = start .args in
     let n = a .s .side .node in
     let f = a .s .side .offset in
     let m = a .s .len in
-    let m₀ = memory (a .store .now) (a .log .now) (a .o) in
+    let m₀ = memory (a .store .now) (a .log .now) (a .at) in
     let p = start .pre .1 in
     let on = put .put-window .ensures (stepIn (p .state .stored)) (p .nodes) n
     (handed (p .table .bounded) (exact-of (else .if1 .left) (p .represents)) (p .holds .0) (place .store-at .ensures)) .onward in

@@ -17,12 +17,12 @@ use Rattle.define.proofs.look_up_reals.Statement.{statement}
 use Rattle.define.proofs.look_up_reals.Tie as tie
 
 abbrev Inv-loop : tie.InvT-loop
-Inv-loop nodes store₀ log₀ node offset len p₀ i₀ store log p i =
+Inv-loop nodes store₀ log₀ at node offset len p₀ i₀ store log p i =
     (i ≤ len) × (length store ≡ length store₀) × (length log ≡ length log₀)
     × Simulates nodes (λ t s. WindowOf t node offset len) (λ t s. each (lookUp t) (windowReals node offset i) s) (memory store₀ log₀ p₀) (memory store log p)
 
 abbrev μ-loop : tie.MeasureT-loop
-μ-loop nodes store₀ log₀ node offset len p₀ i₀ store log p i = len - i
+μ-loop nodes store₀ log₀ at node offset len p₀ i₀ store log p i = len - i
 
 loop-holds : tie.Need-loop-holds Inv-loop μ-loop
 loop-holds c = (omega arith, refl, refl, reals-none (c .before .before .before .args .node) (c .before .before .before .args .offset))

@@ -13,44 +13,44 @@ use Rattle.define.proofs.look_up_window.Tie as tie
 
 returns : tie.Need-returns
 returns c =
-    let a = c .before .before .before .before .before .args in
-    sims-full {m = memory (a .store .now) (a .log .now) (a .o)} (look-up-grows (window (a .s .side .node) (a .s .side .offset) (a .s .len))) (c .if1 .taken)
+    let a = c .before .before .before .before .args in
+    sims-full {m = memory (a .store .now) (a .log .now) (a .at)} (look-up-grows (window (a .s .side .node) (a .s .side .offset) (a .s .len))) (c .if1 .taken)
 
 add-if2 : tie.Need-add-if2
 add-if2 c =
-    let b = window-bounds (c .before .before .before .before .before .pre .table .bounded) (c .before .before .before .before .before .pre .represents) (c .before .before .before .before .before .pre .holds) in
+    let b = window-bounds (c .before .before .before .before .pre .table .bounded) (c .before .before .before .before .pre .represents) (c .before .before .before .before .pre .holds) in
     omega (arith, b .small)
 
 mul-if2 : tie.Need-mul-if2
 mul-if2 c =
-    let b = window-bounds (c .before .before .before .before .before .pre .table .bounded) (c .before .before .before .before .before .pre .represents) (c .before .before .before .before .before .pre .holds) in
+    let b = window-bounds (c .before .before .before .before .pre .table .bounded) (c .before .before .before .before .pre .represents) (c .before .before .before .before .pre .holds) in
     omega (arith, b .small)
 
 slice-read-if2 : tie.Need-slice-read-if2
 slice-read-if2 c =
-    let b = window-bounds (c .before .before .before .before .before .before .pre .table .bounded) (c .before .before .before .before .before .before .pre .represents) (c .before .before .before .before .before .before .pre .holds) in
+    let b = window-bounds (c .before .before .before .before .before .pre .table .bounded) (c .before .before .before .before .before .pre .represents) (c .before .before .before .before .before .pre .holds) in
     omega (arith, b .inside)
 
 returns-2 : tie.Need-returns-2
 returns-2 c =
     let else = c .before .before in
-    let a = else .before .before .before .before .before .args in
-    sims-there (window (a .s .side .node) (a .s .side .offset) (a .s .len)) (a .s .window + 1) (memory (a .store .now) (a .log .now) (a .o)) (else .if1 .left)
+    let a = else .before .before .before .before .args in
+    sims-there (window (a .s .side .node) (a .s .side .offset) (a .s .len)) (a .s .window + 1) (memory (a .store .now) (a .log .now) (a .at)) (else .if1 .left)
     (λ t u l x. window-named (l .bounded) (window-of (l .bounded) (a .s) x)) (λ t u l x. window-slots (l .bounded) (a .s) x .1) (c .if2 .taken)
 
 add-to : tie.Need-add-to
 add-to c =
-    let b = window-bounds (c .before .before .before .before .before .before .before .before .before .pre .table .bounded) (c .before .before .before .before .before .before .before .before .before .pre .represents) (c .before .before .before .before .before .before .before .before .before .pre .holds) in
+    let b = window-bounds (c .before .before .before .before .before .before .before .before .pre .table .bounded) (c .before .before .before .before .before .before .before .before .pre .represents) (c .before .before .before .before .before .before .before .before .pre .holds) in
     omega (arith, b .values)
 
 outputs-requires : tie.Need-outputs-requires
 outputs-requires c κs =
-    let b = window-bounds (c .before .before .before .before .before .before .before .before .before .pre .table .bounded) (c .before .before .before .before .before .before .before .before .before .pre .represents) (c .before .before .before .before .before .before .before .before .before .pre .holds) in
+    let b = window-bounds (c .before .before .before .before .before .before .before .before .pre .table .bounded) (c .before .before .before .before .before .before .before .before .pre .represents) (c .before .before .before .before .before .before .before .before .pre .holds) in
     (omega (arith, b .low), b .values)
 
 mul-look-up-zero : tie.Need-mul-look-up-zero
 mul-look-up-zero c =
-    let b = window-bounds (c .before .before .before .before .before .before .before .before .before .before .pre .table .bounded) (c .before .before .before .before .before .before .before .before .before .before .pre .represents) (c .before .before .before .before .before .before .before .before .before .before .pre .holds) in
+    let b = window-bounds (c .before .before .before .before .before .before .before .before .before .pre .table .bounded) (c .before .before .before .before .before .before .before .before .before .pre .represents) (c .before .before .before .before .before .before .before .before .before .pre .holds) in
     omega (arith, b .values)
 
 sub-look-up-zero : tie.Need-sub-look-up-zero
@@ -61,13 +61,13 @@ part-look-up-zero-start c = search needs
 
 part-look-up-zero-end : tie.Need-part-look-up-zero-end
 part-look-up-zero-end c =
-    let b = window-bounds (c .before .before .before .before .before .before .before .before .before .before .before .pre .table .bounded) (c .before .before .before .before .before .before .before .before .before .before .before .pre .represents) (c .before .before .before .before .before .before .before .before .before .before .before .pre .holds) in
+    let b = window-bounds (c .before .before .before .before .before .before .before .before .before .before .pre .table .bounded) (c .before .before .before .before .before .before .before .before .before .before .pre .represents) (c .before .before .before .before .before .before .before .before .before .before .pre .holds) in
     omega (arith, b .values)
 
 look-up-zero-requires : tie.Need-look-up-zero-requires
 look-up-zero-requires c κs =
     let outputs = c .before .before .before .before in
-    let start = outputs .before .before .before .before .before .before .before .before .before .before in
+    let start = outputs .before .before .before .before .before .before .before .before .before in
     let a = start .args in
     let p = start .pre in
     let b = window-bounds (p .table .bounded) (p .represents) (p .holds) in
@@ -80,7 +80,7 @@ look-up-reals-requires : tie.Need-look-up-reals-requires
 look-up-reals-requires c κs =
     let zero = c .before .before .before .before .before .before in
     let outputs = zero .before .before .before .before .before in
-    let start = outputs .before .before .before .before .before .before .before .before .before .before in
+    let start = outputs .before .before .before .before .before .before .before .before .before in
     let a = start .args in
     let p = start .pre in
     let first = zero .look-up-zero .ensures (a .nodes .now) (a .s .side .node) (a .s .side .offset) (a .s .len) in
@@ -97,7 +97,7 @@ define-window-requires c κs =
     let outputs = zero .before .before .before .before .before in
     let empty = outputs .before .before .before in
     let else = empty .before .before in
-    let start = else .before .before .before .before .before in
+    let start = else .before .before .before .before in
     let a = start .args in
     let e = outputs .outputs .ensures in
     let first = sims-under (λ t u l w. window-in (a .s) e (l .bounded) w)
@@ -123,7 +123,7 @@ returns-3 c =
     let outputs = zero .before .before .before .before .before in
     let empty = outputs .before .before .before in
     let else = empty .before .before in
-    let a = else .before .before .before .before .before .args in
+    let a = else .before .before .before .before .args in
     let e = outputs .outputs .ensures in
     let first = sims-under (λ t u l w. window-in (a .s) e (l .bounded) w)
     (zero .look-up-zero .ensures (a .nodes .now) (a .s .side .node) (a .s .side .offset) (a .s .len)) in

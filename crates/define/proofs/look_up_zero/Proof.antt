@@ -14,18 +14,18 @@ use Rattle.define.proofs.look_up_zero.Tie as tie
 
 returns : tie.Need-returns
 returns c =
-    let a = c .before .before .before .before .before .args in
-    λ ns n f m. sims-full {m = memory (a .store .now) (a .log .now) (a .o)} (look-up-grows (window-zero n f m)) (c .if1 .taken)
+    let a = c .before .before .before .before .args in
+    λ ns n f m. sims-full {m = memory (a .store .now) (a .log .now) (a .at)} (look-up-grows (window-zero n f m)) (c .if1 .taken)
 
 mul-if2 : tie.Need-mul-if2
 mul-if2 c =
-    let p = c .before .before .before .before .before .pre .1 in
+    let p = c .before .before .before .before .pre .1 in
     let b = zero-bounds (p .4) in
     search needs
 
 slice-read-if2 : tie.Need-slice-read-if2
 slice-read-if2 c =
-    let p = c .before .before .before .before .before .before .pre .1 in
+    let p = c .before .before .before .before .before .pre .1 in
     let b = zero-bounds (p .4) in
     search needs
 
@@ -33,8 +33,8 @@ returns-2 : tie.Need-returns-2
 unfolding slot
 returns-2 c =
     let else = c .before .before in
-    let a = else .before .before .before .before .before .args in
-    λ ns n f m. sims-there (window-zero n f m) (a .slot) (memory (a .store .now) (a .log .now) (a .o)) (else .if1 .left)
+    let a = else .before .before .before .before .args in
+    λ ns n f m. sims-there (window-zero n f m) (a .slot) (memory (a .store .now) (a .log .now) (a .at)) (else .if1 .left)
     (λ t s l w. zero-named (l .bounded) (w .shown)) (λ t s l w. w .slot) (c .if2 .taken)
 
 bare-requires : tie.Need-bare-requires
@@ -45,7 +45,7 @@ put-sum-requires c κs = search needs
 
 store-key-requires : tie.Need-store-key-requires
 store-key-requires c κs =
-    let p = c .before .before .before .before .before .before .before .before .before .before .before .before .before .pre .1 in
+    let p = c .before .before .before .before .before .before .before .before .before .before .before .before .pre .1 in
     let b = zero-bounds (p .4) in
     (b .above, b .inside, b .small, omega arith)
 
@@ -62,10 +62,10 @@ returns-3 c =
     let put = stored .before .before .before .before in
     let empty = put .before .before .before in
     let else = empty .before .before in
-    let a = else .before .before .before .before .before .args in
+    let a = else .before .before .before .before .args in
     let w = rw (put .before .bare .ensures) at (put .put-sum .ensures) in
     λ ns n f m.
-    let m₀ = memory (a .store .now) (a .log .now) (a .o) in
+    let m₀ = memory (a .store .now) (a .log .now) (a .at) in
     let k = window-zero n f m in
     sims-new k (a .slot) m₀ (else .if1 .left) (λ t s l x. zero-named (l .bounded) (x .shown)) (λ t s l x. x .slot) refl (empty .if2 .left)
     (sims-define k (a .slot) m₀ (else .if1 .left) (λ t s l x. zero-named (l .bounded) (x .shown)) (λ t s l x. x .slot) 1

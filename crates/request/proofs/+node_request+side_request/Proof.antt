@@ -99,7 +99,7 @@ node-request-returns t c = sims-full (ask-grows _) (c .if1 .taken)
 
 node-request-is-leaf-requires : (t : ℕ) → node-request-lts.Need-is-leaf-requires (node-claims t) (node-request-at t) node-request.Post
 node-request-is-leaf-requires t c κs =
-    let w = c .before .before .before .before .before .pre .1 in
+    let w = c .before .before .before .before .pre .1 in
     let r = row-there (w .table) _ (w .holds .there) in
     (r .1, r .0)
 
@@ -108,7 +108,7 @@ node-request-returns-2 t c = node-leaf (direction _) (sym (c .before .is-leaf .e
 
 node-request-is-held-requires : (t : ℕ) → node-request-lts.Need-is-held-requires (node-claims t) (node-request-at t) node-request.Post
 node-request-is-held-requires t c κs =
-    let w = c .before .before .before .before .before .before .before .before .pre .1 in
+    let w = c .before .before .before .before .before .before .before .pre .1 in
     asked-room (w .table .bounded) (w .holds) _ (store-room (w .represents))
 
 node-request-same-length : (t : ℕ) → node-request-lts.Need-same-length (node-claims t) (node-request-at t) node-request.Post
@@ -120,13 +120,13 @@ node-request-returns-3 t c =
 
 node-request-join-at-requires : (t : ℕ) → node-request-lts.Need-join-at-requires (node-claims t) (node-request-at t) node-request.Post
 node-request-join-at-requires t c κs =
-    let w = c .before .before .before .before .before .before .before .before .before .before .pre .1 in
+    let w = c .before .before .before .before .before .before .before .before .before .pre .1 in
     asked-row (w .table) (w .holds) (sym (c .before .before .before .before .is-leaf .ensures) ∙ c .before .before .before .if2 .left)
 
 node-request-side-request-requires : (t : ℕ) → node-request-lts.Need-side-request-requires (node-claims t) (node-request-at t) node-request.Post
 node-request-side-request-requires t c κs =
     let j = c .before .before .before .before in
-    let s = j .before .before .before .before .before .before .before .before .before .before .before in
+    let s = j .before .before .before .before .before .before .before .before .before .before in
     let w = s .pre .1 in
     let g = sym (j .before .before .before .before .before .is-leaf .ensures) ∙ j .before .before .before .before .if2 .left in
     let i = asked-join (w .table) (w .holds) g (j .join-at .ensures) in (
@@ -138,7 +138,7 @@ node-request-side-request-requires-2 : (t : ℕ) → node-request-lts.Need-side-
 node-request-side-request-requires-2 t c κs =
     let a = c .before .before .before .before .before .before in
     let j = a .before .before .before .before .before in
-    let s = j .before .before .before .before .before .before .before .before .before .before .before in
+    let s = j .before .before .before .before .before .before .before .before .before .before in
     let w = s .pre .1 in
     let g = sym (j .before .before .before .before .before .is-leaf .ensures) ∙ j .before .before .before .before .if2 .left in
     let i = asked-join (w .table) (w .holds) g (j .join-at .ensures) in
@@ -153,7 +153,7 @@ node-request-write-request-requires t c κs =
     let b = c .before .before .before .before .before .before in
     let a = b .before .before .before .before .before .before .before in
     let j = a .before .before .before .before .before in
-    let s = j .before .before .before .before .before .before .before .before .before .before .before in
+    let s = j .before .before .before .before .before .before .before .before .before .before in
     let g = sym (j .before .before .before .before .before .is-leaf .ensures) ∙ j .before .before .before .before .if2 .left in
     let v = represented-to (λ u r y k. asked-join y k g (j .join-at .ensures)) (s .pre .1) in
     represented-after (λ u r y k. asked-right-side (y .bounded) k) (b .side-request2 .ensures)
@@ -174,12 +174,12 @@ node-request-returns-4 t c =
     (join-done (direction _) (a .side-request .ensures) (b .side-request2 .ensures)) (c .before .before .before .before .write-request .ensures)
 
 abbrev side-request-Inv-loop : side-request-lts.InvT-loop
-side-request-Inv-loop nodes store₀ log₀ q value only-if side low high p₀ i₀ i-end store log p i =
+side-request-Inv-loop nodes store₀ log₀ at q value only-if side low high p₀ i₀ i-end store log p i =
     (low ≤ i) × (i ≤ low + (i-end - low)) × (length store ≡ length store₀) × (length log ≡ length log₀)
     × ((z : Shown) → z .side ≡ side → high ≤ z .len → Lower nodes z q value (direction only-if) low i (memory store₀ log₀ p₀) (memory store log p))
 
 abbrev side-request-μ-loop : side-request-lts.MeasureT-loop
-side-request-μ-loop nodes store₀ log₀ q value only-if side low high p₀ i₀ i-end store log p i = i-end - i
+side-request-μ-loop nodes store₀ log₀ at q value only-if side low high p₀ i₀ i-end store log p i = i-end - i
 
 side-request-is-leaf-requires : (t : ℕ) → side-request-lts.Need-is-leaf-requires (side-claims t) (side-request-at t) side-request.Post side-request-Inv-loop side-request-μ-loop
 side-request-is-leaf-requires t c κs =

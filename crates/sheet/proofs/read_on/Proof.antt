@@ -3,11 +3,12 @@ use borrow.Author.Needs.{needs}
 use mathlib.Core.Path.{_≡_}
 use Prim.Native.Nat.{_≤_, _-_}
 use lib.ListN.{length}
+use Rattle.sizes.specs.Sizes.{mostBytes}
 use Rattle.sheet.proofs.read_on.Statement.{statement}
 use Rattle.sheet.proofs.read_on.Tie as tie
 
 abbrev Inv-loop : tie.InvT-loop
-Inv-loop rest₀ i₀ rest i = (i ≤ 4294967295) × (65536 ≡ length rest)
+Inv-loop rest₀ i₀ rest i = (i ≤ 4294967295) × (mostBytes ≡ length rest)
 
 abbrev μ-loop : tie.MeasureT-loop
 μ-loop rest₀ i₀ rest i = 4294967295 - i

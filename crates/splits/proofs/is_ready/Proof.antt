@@ -3,7 +3,6 @@ use mathlib.Core.Path.{sym, _∙_}
 use borrow.Author.Tests.{not-true, not-false}
 use Rattle.splits.specs.Ready.{isReady}
 use borrow.Author.Needs.{needs}
-use Rattle.splits.proofs.Ready.{long-sides}
 use Rattle.splits.proofs.is_ready.Statement.{statement}
 use Rattle.splits.proofs.is_ready.Tie as tie
 
@@ -55,11 +54,7 @@ returns-4 c =
     )
 
 has-first-of-requires : tie.Need-has-first-of-requires
-has-first-of-requires c κs =
-    let start = c .before .before .before .before .before .before .before .before .before in
-    let long = c .before .before .before .before .before .before .before in
-    let both = long-sides (start .args .x) (sym (start .pre .1) ∙ not-false (start .args .long) (long .if1 .left)) in
-    (start .pre .0 .left, both .0)
+has-first-of-requires c κs = c .before .before .before .before .before .before .before .before .before .pre .left
 
 returns-5 : tie.Need-returns-5
 unfolding isReady
@@ -77,11 +72,7 @@ returns-5 c =
     )
 
 has-first-of-requires-2 : tie.Need-has-first-of-requires-2
-has-first-of-requires-2 c κs =
-    let start = c .before .before .before .before .before .before .before .before .before .before .before in
-    let long = c .before .before .before .before .before .before .before .before .before in
-    let both = long-sides (start .args .x) (sym (start .pre .1) ∙ not-false (start .args .long) (long .if1 .left)) in
-    (start .pre .0 .right, both .1)
+has-first-of-requires-2 c κs = c .before .before .before .before .before .before .before .before .before .before .before .pre .right
 
 returns-6 : tie.Need-returns-6
 unfolding isReady

@@ -13,12 +13,12 @@ use Rattle.splits.proofs.write_clauses.Statement.{statement}
 use Rattle.splits.proofs.write_clauses.Tie as tie
 
 abbrev Inv-loop : tie.InvT-loop
-Inv-loop nodes store₀ log₀ x value only-if sum low high long p₀ a₀ a-end store log p a =
+Inv-loop nodes store₀ log₀ at x value only-if sum low high long p₀ a₀ a-end store log p a =
     Between x value only-if low high × (a-end ≡ high + 1) × (low ≤ a) × (a ≤ a-end) × (length store ≡ length store₀) × (length log ≡ length log₀)
     × Simulates nodes (λ t s. JoinIn t x value) (splitsTo x value only-if low a) (memory store₀ log₀ p₀) (memory store log p) × (long ≡ areLong x)
 
 abbrev μ-loop : tie.MeasureT-loop
-μ-loop nodes store₀ log₀ x value only-if sum low high long p₀ a₀ a-end store log p a = a-end - a
+μ-loop nodes store₀ log₀ at x value only-if sum low high long p₀ a₀ a-end store log p a = a-end - a
 
 split-sum-requires : tie.Need-split-sum-requires Inv-loop μ-loop
 split-sum-requires c κs = c .before .before .before .before .before .pre .holds .above

@@ -1,5 +1,6 @@
 -- `splits::write_split` meets its contract: the clause is ready and its lookups do nothing, or it is written with what it looks up.
 use mathlib.Core.Path.{sym, _∙_}
+use native.Mathlib.Omega.{arith}
 use Rattle.define.proofs.Simulates.{store-room}
 use Rattle.clauses.proofs.Joins.{clause-reach}
 use Rattle.clauses.proofs.Stored.{sims-this, sims-stored-real}
@@ -11,9 +12,8 @@ use Rattle.splits.proofs.write_split.Tie as tie
 
 is-ready-requires : tie.Need-is-ready-requires
 is-ready-requires c κs =
-    let q = c .before .before .before .before .pre in
-    let p = q .1 in
-    (clause-reach (p .holds) (p .table .bounded) _ (store-room (p .represents)), q .0)
+    let p = c .before .before .before .before .pre .1 in
+    clause-reach (p .holds) (p .table .bounded) _ (store-room (p .represents))
 
 push-split-requires : tie.Need-push-split-requires
 push-split-requires c κs =
@@ -24,6 +24,9 @@ push-split-requires c κs =
     let long = sym (start .pre .0) ∙ r .long-is in
     ((both-parts (start .args .only-if) long (r .both) (p .holds .left) (p .holds .right), r .room), (start .args .nodes .now, p))
 
+count-clause-requires : tie.Need-count-clause-requires
+count-clause-requires c κs = omega (arith, store-room (c .before .before .before .before .before .before .before .before .before .before .before .before .pre .1 .represents))
+
 same-length : tie.Need-same-length
 same-length c = search needs
 
@@ -32,12 +35,14 @@ same-length-2 c = search needs
 
 returns : tie.Need-returns
 returns c =
-    let put = c .before .before in
+    let count = c .before .before in
+    let put = count .before .before .before .before in
     let test = put .before .before .before in
     let start = test .before .before .before .before .before .before in
     let r = readied (sym (test .before .is-ready .ensures) ∙ test .if1 .taken) in
     let long = sym (start .pre .0) ∙ r .long-is in
-    sims-clause (sims-this (sides-ready _ long r) (sims-stored-real (r .this))) (put .push-split .ensures (start .args .nodes .now))
+    rw (count .count-clause .ensures)
+    (sims-clause (sims-this (sides-ready _ long r) (sims-stored-real (r .this))) (put .push-split .ensures (start .args .nodes .now)))
 
 write-clause-requires : tie.Need-write-clause-requires
 write-clause-requires c κs = search needs
@@ -57,6 +62,7 @@ write-split-spec =
     (tie.spec
     is-ready-requires
     push-split-requires
+    count-clause-requires
     same-length
     same-length-2
     returns

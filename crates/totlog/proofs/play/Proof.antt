@@ -24,14 +24,13 @@ Inv-loop script from nodes₀ store₀ log₀ first-variable t₀ at₀ place₀
     × (length nodes ≡ length nodes₀)
     × (length store ≡ length store₀)
     × (length log ≡ length log₀)
-    × ((h : Head) (c : ℕ) → Standing h c nodes₀ (memory store₀ log₀ (t₀ .out)) t₀ (start h)
+    × ((h : Head) (c : ℕ) → Standing h c nodes₀ (memory store₀ log₀ (t₀ .at)) t₀ (start h)
     → Going h c script (commandsFrom script from) nodes store log t at place closed)
 
 abbrev μ-loop : tie.MeasureT-loop
 μ-loop script from nodes₀ store₀ log₀ first-variable t₀ at₀ place₀ closed₀ nodes store log t at place closed =
     length script - at
 
--- src/lib.rt:66:5
 loop-holds : tie.Need-loop-holds Inv-loop μ-loop
 loop-holds c =
     let entry = c .before .before .before .before in
@@ -44,65 +43,51 @@ loop-holds c =
       λ h p st. record { state = start h; standing = st; fuel = length (a .script .now) - a .from; enough = omega arith; is = refl; took = took-start h (a .from) },
     )
 
--- src/lib.rt:67:13
 next-requires : tie.Need-next-requires Inv-loop μ-loop
 next-requires c κs = search needs
 
--- src/lib.rt:70:17
 enum-told : tie.Need-enum-told Inv-loop μ-loop
 enum-told c = search needs
 
--- src/lib.rt:70:17
 same-length : tie.Need-same-length Inv-loop μ-loop
 same-length c = search needs
 
--- src/lib.rt:70:17
 same-length-2 : tie.Need-same-length-2 Inv-loop μ-loop
 same-length-2 c = search needs
 
--- src/lib.rt:70:17
 same-length-3 : tie.Need-same-length-3 Inv-loop μ-loop
 same-length-3 c = search needs
 
--- src/lib.rt:70:17
 returns : tie.Need-returns Inv-loop μ-loop
 returns c =
     λ h p st.
     let l = c .before .before .before .loop in
     finished (l .inv .0) (l .inv .5 h p st) (sym (c .before .before .next .ensures) ∙ c .enum-told .given .1) _ refl refl refl
 
--- src/lib.rt:76:36
 enum-known-reading : tie.Need-enum-known-reading Inv-loop μ-loop
 enum-known-reading c = search needs
 
--- src/lib.rt:79:28
 add-t18 : tie.Need-add-t18 Inv-loop μ-loop
 add-t18 c = omega (arith, c .before .before .before .before .loop .inv .0, c .before .before .before .before .loop .inv .1, c .before .before .before .before .before .before .before .before .before .pre .0 .0)
 
--- src/lib.rt:77:17
 same-length-4 : tie.Need-same-length-4 Inv-loop μ-loop
 same-length-4 c = search needs
 
--- src/lib.rt:77:17
 same-length-5 : tie.Need-same-length-5 Inv-loop μ-loop
 same-length-5 c = search needs
 
--- src/lib.rt:77:17
 same-length-6 : tie.Need-same-length-6 Inv-loop μ-loop
 same-length-6 c = search needs
 
--- src/lib.rt:77:17
 returns-2 : tie.Need-returns-2 Inv-loop μ-loop
 returns-2 c =
     λ h p st.
     let l = c .before .before .before .before .loop in
     stopped-reading (l .inv .0) (l .inv .5 h p st) _ (sym (c .before .before .before .next .ensures) ∙ c .before .reading .given .1) _ refl refl refl
 
--- src/lib.rt:83:37
 enum-known-reading-2 : tie.Need-enum-known-reading-2 Inv-loop μ-loop
 enum-known-reading-2 c = search needs
 
--- src/lib.rt:84:21
 command-requires : tie.Need-command-requires Inv-loop μ-loop
 command-requires c κs =
     let pre = c .before .before .before .before .before .before .before .before .before .before .before .before .pre in
@@ -112,23 +97,18 @@ command-requires c κs =
     let reads = sym (c .before .before .before .before .before .before .next .ensures) ∙ c .before .before .before .before .reading2 .given .1 in
     (record { head = b .head; capacity = b .capacity; state = g .state; standing = g .standing; room = room-left (l .inv .0) g reads (pre .0 .2) (l .inv .2) (l .inv .3) }, unfold start in b .standing .variable)
 
--- src/lib.rt:89:32
 add-t26 : tie.Need-add-t26 Inv-loop μ-loop
 add-t26 c = omega (arith, c .before .before .before .before .before .before .before .before .before .before .before .before .before .before .before .before .before .loop .inv .0, c .before .before .before .before .before .before .before .before .before .before .before .before .before .before .before .before .before .loop .inv .1, c .before .before .before .before .before .before .before .before .before .before .before .before .before .before .before .before .before .before .before .before .before .before .pre .0 .0)
 
--- src/lib.rt:87:21
 same-length-7 : tie.Need-same-length-7 Inv-loop μ-loop
 same-length-7 c = c .before .before .before .before .before .before .before .before .before .command .kept .0 ∙ c .before .before .before .before .before .before .before .before .before .before .before .before .before .before .before .before .before .loop .inv .2
 
--- src/lib.rt:87:21
 same-length-8 : tie.Need-same-length-8 Inv-loop μ-loop
 same-length-8 c = c .before .before .before .before .before .before .before .before .before .command .kept .1 .0 ∙ c .before .before .before .before .before .before .before .before .before .before .before .before .before .before .before .before .before .loop .inv .3
 
--- src/lib.rt:87:21
 same-length-9 : tie.Need-same-length-9 Inv-loop μ-loop
 same-length-9 c = c .before .before .before .before .before .before .before .before .before .command .kept .1 .1 .0 ∙ c .before .before .before .before .before .before .before .before .before .before .before .before .before .before .before .before .before .loop .inv .4
 
--- src/lib.rt:87:21
 returns-3 : tie.Need-returns-3 Inv-loop μ-loop
 returns-3 c =
     λ h p st.
@@ -137,15 +117,12 @@ returns-3 c =
     let played = c .before .before .before .before .before .before .before .before .before .command .ensures h p (g .state) (unfold start in st .variable) (g .standing) in
     stops (l .inv .0) g (sym (c .before .before .before .before .before .before .before .before .before .before .before .before .before .before .before .before .next .ensures) ∙ c .before .before .before .before .before .before .before .before .before .before .before .before .before .before .reading2 .given .1) played (c .if1 .taken) _ refl refl refl
 
--- src/lib.rt:94:25
 add-place : tie.Need-add-place Inv-loop μ-loop
 add-place c = omega (arith, c .before .before .before .before .before .before .before .before .before .before .before .before .before .before .before .before .before .loop .inv .0, c .before .before .before .before .before .before .before .before .before .before .before .before .before .before .before .before .before .loop .inv .1, c .before .before .before .before .before .before .before .before .before .before .before .before .before .before .before .before .before .before .before .before .before .before .pre .0 .0)
 
--- src/lib.rt:96:17
 closes-requires : tie.Need-closes-requires Inv-loop μ-loop
 closes-requires c κs = search needs
 
--- src/lib.rt:66:5
 loop-less : tie.Need-loop-less Inv-loop μ-loop
 loop-less c =
     let l = c .before .before .before .before .before .before .before .before .before .before .before .before .before .before .before .before .before .before .loop in
@@ -156,7 +133,6 @@ loop-less c =
     let inside = end-inside (l .inv .0) g reads in
     omega (arith, later, inside)
 
--- src/lib.rt:66:5
 loop-again : tie.Need-loop-again Inv-loop μ-loop
 loop-again c =
     let command-at = c .before .before .before .before .before .before .before .before .before .before in

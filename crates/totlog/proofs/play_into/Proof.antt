@@ -12,39 +12,31 @@ use Rattle.totlog.proofs.play_into.Lts as lts
 use Rattle.record.proofs.clear.Reads as clear-reads
 use Rattle.totlog.proofs.play_script.Reads as play-script-reads
 
--- src/lib.rt:186:9
 play-script-requires : tie.Need-play-script-requires
 play-script-requires c κs = search needs
 
--- src/lib.rt:187:13
 cast-n : tie.Need-cast-n
 cast-n c = search needs
 
--- src/lib.rt:188:19
 sub-clear : tie.Need-sub-clear
 sub-clear c =
     let a = c .before .before .before .before .before .before .before .args in
     used-within (subst (λ (n : ℕ). Padded n (played (a .script .now) (length (a .log .now)))) (sym (c .before .before .before .play-script .kept .1 .0)) (padded (length (a .log .now)) (a .script .now))) (c .before .before .before .play-script .ensures)
 
--- src/lib.rt:188:19
 part-clear-start : tie.Need-part-clear-start
 part-clear-start c =
     let a = c .before .before .before .before .before .before .before .args in
     used-within (subst (λ (n : ℕ). Padded n (played (a .script .now) (length (a .log .now)))) (sym (c .before .before .before .play-script .kept .1 .0)) (padded (length (a .log .now)) (a .script .now))) (c .before .before .before .play-script .ensures)
 
--- src/lib.rt:188:19
 part-clear-end : tie.Need-part-clear-end
 part-clear-end c = search needs
 
--- src/lib.rt:188:5
 clear-requires : tie.Need-clear-requires
 clear-requires c κs = search needs
 
--- src/lib.rt:182:1
 same-length : tie.Need-same-length
 same-length c = search needs
 
--- src/lib.rt:182:1
 returns : tie.Need-returns
 returns c =
     let a = c .before .before .before .before .before .before .before .before .before .before .before .args in

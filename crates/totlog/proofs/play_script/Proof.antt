@@ -11,85 +11,69 @@ use Rattle.player.proofs.head.Reads as head-reads
 use Rattle.totlog.proofs.play_commands.Reads as play-commands-reads
 use Rattle.totlog.proofs.refuse.Reads as refuse-reads
 
--- src/lib.rt:161:9
 refuse-requires : tie.Need-refuse-requires
 refuse-requires c κs = search needs
 
--- src/lib.rt:161:9
 returns : tie.Need-returns
 returns c =
     let a = c .before .before .before .before .args in
     refused-tells (length (a .log .now)) 1 _ _ _
     (script-long (a .script .now) (length (a .log .now)) (omega arith)) (c .refuse .ensures)
 
--- src/lib.rt:164:9
 refuse-requires-2 : tie.Need-refuse-requires-2
 refuse-requires-2 c κs = search needs
 
--- src/lib.rt:164:9
 returns-2 : tie.Need-returns-2
 returns-2 c =
     let a = c .before .before .before .before .before .args in
     refused-tells (length (a .log .now)) 1 _ _ _
     (log-long (a .script .now) (length (a .log .now)) (omega arith) (omega arith)) (c .refuse2 .ensures)
 
--- src/lib.rt:166:50
 head-requires : tie.Need-head-requires
 head-requires c κs = search needs
 
--- src/lib.rt:166:27
 enum-known-variable : tie.Need-enum-known-variable
 enum-known-variable c = search needs
 
--- src/lib.rt:167:9
 enum-told : tie.Need-enum-told
 enum-told c = search needs
 
--- src/lib.rt:167:9
 refuse-requires-3 : tie.Need-refuse-requires-3
 refuse-requires-3 c κs = search needs
 
--- src/lib.rt:167:9
 returns-3 : tie.Need-returns-3
 returns-3 c =
     let a = c .before .before .before .before .before .before .before .before .args in
     refused-tells (length (a .log .now)) 2 _ _ _
     (head-bad (a .script .now) (length (a .log .now)) (omega arith) (omega arith) (sym (c .before .before .before .head .ensures) ∙ c .before .enum-told .given .1)) (c .refuse3 .ensures)
 
--- src/lib.rt:170:9
 refuse-requires-4 : tie.Need-refuse-requires-4
 refuse-requires-4 c κs = search needs
 
--- src/lib.rt:170:9
 returns-4 : tie.Need-returns-4
 returns-4 c =
     let a = c .before .before .before .before .before .before .before .before .before .before .args in
     refused-tells (length (a .log .now)) 3 _ _ _
     (head-outside (a .script .now) (length (a .log .now)) (omega arith) (omega arith) _ _ _ (sym (c .before .before .before .before .before .head .ensures) ∙ c .before .before .before .variable .given .1) (variable-high _ _ (c .before .if3 .taken))) (c .refuse4 .ensures)
 
--- src/lib.rt:173:9
 refuse-requires-5 : tie.Need-refuse-requires-5
 refuse-requires-5 c κs = search needs
 
--- src/lib.rt:173:9
 returns-5 : tie.Need-returns-5
 returns-5 c =
     let a = c .before .before .before .before .before .before .before .before .before .before .before .args in
     refused-tells (length (a .log .now)) 3 _ _ _
     (head-outside (a .script .now) (length (a .log .now)) (omega arith) (omega arith) _ _ _ (sym (c .before .before .before .before .before .before .head .ensures) ∙ c .before .before .before .before .variable .given .1) (step-zero _ _ (c .before .before .if3 .left) (c .before .if4 .taken))) (c .refuse5 .ensures)
 
--- src/lib.rt:176:9
 refuse-requires-6 : tie.Need-refuse-requires-6
 refuse-requires-6 c κs = search needs
 
--- src/lib.rt:176:9
 returns-6 : tie.Need-returns-6
 returns-6 c =
     let a = c .before .before .before .before .before .before .before .before .before .before .before .before .args in
     refused-tells (length (a .log .now)) 3 _ _ _
     (head-outside (a .script .now) (length (a .log .now)) (omega arith) (omega arith) _ _ _ (sym (c .before .before .before .before .before .before .before .head .ensures) ∙ c .before .before .before .before .before .variable .given .1) (step-high _ _ (c .before .before .before .if3 .left) (omega (arith, c .before .before .if4 .left)) (c .before .if5 .taken))) (c .refuse6 .ensures)
 
--- src/lib.rt:178:5
 play-commands-requires : tie.Need-play-commands-requires
 play-commands-requires c κs =
     let a = c .before .before .before .before .before .before .before .before .before .before .before .before .args in
@@ -102,11 +86,9 @@ play-commands-requires c κs =
       head = head-fits _ _ (c .before .before .before .if3 .left) (omega (arith, c .before .before .if4 .left)) (c .before .if5 .left);
     }
 
--- src/lib.rt:157:1
 same-length : tie.Need-same-length
 same-length c = search needs
 
--- src/lib.rt:157:1
 returns-7 : tie.Need-returns-7
 returns-7 c =
     let a = c .before .before .before .before .before .before .before .before .before .before .before .before .before .before .before .args in

@@ -4,7 +4,7 @@ use mathlib.Core.Path.{_≡_}
 use Prim.Native.Nat.{_+_, _-_}
 use native.Mathlib.Omega.{arith}
 use Rattle.record.proofs.Writing.{after}
-use Rattle.totdb.specs.Nodes.{at}
+use Rattle.totdb.specs.Nodes.{nodeAt}
 use Rattle.window.proofs.Windows.{window-is}
 use Rattle.window.proofs.put_window.Statement.{statement}
 use Rattle.window.proofs.put_window.Tie as tie
@@ -41,7 +41,7 @@ returns c = λ at-step t n handed.
     let a = start .args in
     let all : a .offset + a .len - a .offset ≡ a .len = omega arith in
     rw (← window-is (a .row .now) (a .outputs .now) at-step t n (a .offset) (a .len) (start .pre .inside) handed)
-    (after (values .put-values .ensures at-step n (at t n) handed) (rw all at (sum .put-sum .ensures)))
+    (after (values .put-values .ensures at-step n (nodeAt t n) handed) (rw all at (sum .put-sum .ensures)))
 
 pub put-window-spec : {M : Type 1} → statement M
 put-window-spec =

@@ -1,8 +1,5 @@
 -- `replay::compare::answer_to` meets its contract: the script played, the numbers read back.
 use mathlib.Core.Path.{refl}
-use lib.ListN.{length}
-use Rattle.player.specs.Player.{played}
-use Rattle.totlog.specs.Entry.{answerOf}
 use Rattle.replay.proofs.Recorded.{six}
 use borrow.Author.Needs.{needs}
 use Rattle.replay.proofs.compare.answer_to.Statement.{statement}
