@@ -77,11 +77,11 @@ module _ {script : List ℕ} {from : ℕ} {log : List ℕ} {h : Head} {ns store 
   abbrev begun : List ℕ
   begun = set store stepAt (h .step)
 
-  pub rows-begun : Rows (length script) ns begun
-  rows-begun = record {
+  pub rows-begun : (n : ℕ) → Rows (length script) ns (set store stepAt n)
+  rows-begun n = record {
     room = λ leaves joins m.
         let r = rows .room leaves joins m in
-        record { row = r .row; store-row = omega (arith, r .store-row, length-set store stepAt (h .step)) };
+        record { row = r .row; store-row = omega (arith, r .store-row, length-set store stepAt n) };
   }
 
   -- The script has its head, and so a byte.

@@ -24,7 +24,7 @@ play-requires c κs =
     let a = start .args in
     let lent = start .pre .0 in
     let tables = start .pre .1 in (
-      (lent .short, lent .inside, rows-begun lent (tables .0) (tables .1)),
+      (lent .short, lent .inside, rows-begun lent (tables .0) (tables .1) _),
       record { head = (record { variable = a .variable; step = a .step }); capacity = _; standing = standing-begin lent (tables .0) (tables .1) },
     )
 
