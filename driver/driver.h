@@ -9,8 +9,9 @@
 
 // ---- numbers.c: byte strings, and the numbers of scripts and logs
 
-enum { MOST_NUMBER = (1 << 21) - 1 }; // three groups of seven bits hold no more
-#define NUMBER_RANGE "a number from 0 to 2097151" // MOST_NUMBER, in messages
+#define QUOTED(x) #x
+#define EXPANDED(x) QUOTED(x)
+#define NUMBER_RANGE "a number from 0 to " EXPANDED(TOTLOG_MOST_NUMBER) // in messages
 
 struct bytes {
     uint8_t *at;
@@ -44,7 +45,7 @@ bool read_command(struct reader *script, uint32_t place, struct command *c);
 // What the number that did not read would have been.
 const char *part_wanted(const struct command *c);
 void print_command(FILE *to, const struct command *c);
-// A decimal number up to MOST_NUMBER.
+// A decimal number up to TOTLOG_MOST_NUMBER.
 bool parse_number(const char *word, size_t length, uint32_t *number);
 // The script that a text stands for. A fault of the text goes to standard error.
 bool assemble(const char *name, const struct bytes *text, struct bytes *script);

@@ -1,5 +1,5 @@
 // Byte strings that grow, and the numbers of scripts and logs: groups of seven bits, low group first, top bit set where
-// another follows, shortest form, at most three groups.
+// another follows, shortest form, at most four groups.
 #include "driver.h"
 
 #include <stdlib.h>
@@ -32,7 +32,7 @@ bool read_number(struct reader *r, uint32_t *number) {
         if (r->at == r->length) return fault(r, group ? "it ends inside a number" : "it ends");
         uint8_t byte = r->bytes[r->at];
         if (group > 0 && byte == 0) return fault(r, "the number is not in shortest form");
-        if (group == 2 && byte >= 128) return fault(r, "the number has more than three groups");
+        if (group == 3 && byte >= 128) return fault(r, "the number has more than four groups");
         *number |= (uint32_t)(byte % 128) << (7 * group);
         r->at++;
         if (byte < 128) return true;

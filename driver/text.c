@@ -139,7 +139,7 @@ bool parse_number(const char *word, size_t length, uint32_t *number) {
     for (size_t i = 0; i < length; i++) {
         if (word[i] < '0' || word[i] > '9') return false;
         *number = 10 * *number + (uint32_t)(word[i] - '0');
-        if (*number > MOST_NUMBER) return false;
+        if (*number > TOTLOG_MOST_NUMBER) return false;
     }
     return length > 0;
 }

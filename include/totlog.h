@@ -12,6 +12,12 @@ extern "C" {
 // A script or a log is at most so long; a longer one is refused by number 1.
 #define TOTLOG_MOST_BYTES 65536
 
+// A number of a script or a log has at most four groups of seven bits, and is no larger than this.
+#define TOTLOG_MOST_NUMBER 268435455
+
+// The head's two numbers, the first output variable and the first step, are at most this.
+#define TOTLOG_MOST_HEAD 100000000
+
 // Six numbers of four bytes, low byte first.
 #define TOTLOG_ANSWER_BYTES 24
 
@@ -23,8 +29,8 @@ extern "C" {
 enum {
     TOTLOG_ACCEPTED = 0,
     TOTLOG_TOO_LONG = 1,       // the script or the log is longer than 65,536 bytes
-    TOTLOG_NO_NUMBER = 2,      // no number reads here: none is left, it is not in shortest form, or it has over three groups
-    TOTLOG_HEAD = 3,           // the first output variable is above 1,000,000, or the first step is not 1 to 1,000,000
+    TOTLOG_NO_NUMBER = 2,      // no number reads here: none is left, it is not in shortest form, or it has over four groups
+    TOTLOG_HEAD = 3,           // the first output variable is above 100,000,000, or the first step is not 1 to 100,000,000
     TOTLOG_CLOSED = 4,         // a command after a close
     TOTLOG_NO_COMMAND = 5,     // the code is not 1 to 4
     TOTLOG_LEAF_VARIABLE = 6,  // the leaf's variable is not below the first output variable

@@ -1,5 +1,7 @@
 # The file of recorded answers (crates/replay/stdin), the numbers of scripts and logs, and the clauses of a log.
 
+GROUPS = 4  # of seven bits, at most
+
 
 class Fault(Exception):
     """No number reads; the place of the byte, from 1."""
@@ -7,11 +9,11 @@ class Fault(Exception):
 
 def number(data, at):
     value = 0
-    for group in range(3):
+    for group in range(GROUPS):
         if at + group == len(data):
             raise Fault(at + group + 1)
         byte = data[at + group]
-        if (group and byte == 0) or (group == 2 and byte > 127):
+        if (group and byte == 0) or (group == GROUPS - 1 and byte > 127):
             raise Fault(at + group + 1)
         value += (byte & 127) << 7 * group
         if byte < 128:

@@ -30,7 +30,7 @@ def counters():
     """A head, leaf and join commands, and the nodes: how many commands make each, and its length."""
     most = random.choice([4, 6, 8, 10, 12]) if random.random() < 0.97 else random.randint(32, 44)
     windows = random.choice([0, 0.3, 0.6])
-    variables = random.choice([most, most + 40, 5000, 1000000])
+    variables = random.choice([most, most + 40, 5000, 1048600, 100000000])
     unused = random.sample(range(variables), most)
     literals, commands, nodes, free = [], [], [], []
     while unused or len(free) > 1:
@@ -47,7 +47,7 @@ def counters():
             length = left[1] + right[1]
         free.append((len(nodes), length))
         nodes.append((len(commands), length))
-    return [variables, random.choice([1, 100, 16000, 1000000])], commands, nodes
+    return [variables, random.choice([1, 100, 16000, 2097000, 100000000])], commands, nodes
 
 
 def requests(nodes):

@@ -8,7 +8,7 @@ use crate::{
 /// Script and log each (question 1).
 const MOST_BYTES: usize = 65_536;
 /// First output variable and first step number (question 3).
-const MOST_HEAD: u32 = 1_000_000;
+pub const MOST_HEAD: u32 = 100_000_000;
 /// Leaves (question 7).
 const MOST_LEAVES: usize = 64;
 

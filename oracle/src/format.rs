@@ -3,7 +3,10 @@
 pub use pigeons::write_number;
 
 /// A number takes at most so many groups of seven bits.
-const GROUPS: usize = 3;
+const GROUPS: usize = 4;
+
+/// The least numbers of two, three and four groups.
+pub const LEAST_OF_GROUPS: [u32; 3] = [1 << 7, 1 << 14, 1 << 21];
 
 /// Reads numbers from the front of a byte string.
 pub struct Reader<'a> {

@@ -2,8 +2,8 @@
 //! all directions, repeats, requests between joins, with and without a close; and damaged copies.
 
 use crate::{
-    desk::play,
-    format::{put, Answer, Case, Command, Reader, Side},
+    desk::{play, MOST_HEAD},
+    format::{put, Answer, Case, Command, Reader, Side, LEAST_OF_GROUPS},
     random::Random,
 };
 
@@ -73,11 +73,17 @@ impl Draft {
     }
 }
 
+/// A number of the head, some just below or at a number that takes a group more, some at the limit or, now and then, past
+/// it. Literals are twice as large as variables, and the numbers made from it go on from there.
 fn head_number(random: &mut Random, least: u32) -> u32 {
-    match random.from(0, 9) {
-        0 => random.pick(&[1_000_000, 999_999]),
-        1 => random.pick(&[127, 128, 16_383, 16_384]).max(least),
-        2 => random.from(least, 1_000_000),
+    match random.from(0, 99) {
+        0..=9 => MOST_HEAD - random.from(0, 1),
+        10..=21 => {
+            let limit = random.pick(&LEAST_OF_GROUPS) / random.pick(&[1, 2]);
+            (limit + 2).saturating_sub(random.from(1, 20)).max(least)
+        }
+        22..=29 => random.from(least, MOST_HEAD),
+        30 => MOST_HEAD + 1,
         _ => least + random.from(0, 3),
     }
 }
@@ -159,9 +165,9 @@ pub fn script(random: &mut Random, most_leaves: u32) -> Vec<u8> {
 /// A script of 64 leaves with the head's numbers as large as they may be.
 pub fn large_script(random: &mut Random) -> Vec<u8> {
     let mut draft = Draft { script: vec![], lengths: vec![], free: vec![] };
-    put(&mut draft.script, 1_000_000);
-    put(&mut draft.script, 1_000_000);
-    leaves(random, &mut draft, 64, 1_000_000);
+    put(&mut draft.script, MOST_HEAD);
+    put(&mut draft.script, MOST_HEAD);
+    leaves(random, &mut draft, 64, MOST_HEAD);
     let chain = random.chance(50);
     while draft.free.len() > 1 {
         let left = draft.take(if chain { draft.free.len() - 1 } else { 0 });
@@ -176,7 +182,16 @@ pub fn large_script(random: &mut Random) -> Vec<u8> {
     draft.script
 }
 
-/// A bit flipped, a byte changed, added or dropped, the end cut off, or a part doubled.
+/// Numbers of four groups, the largest of all too, and bytes that are no number: not the shortest form, five groups.
+const LONG: [&[u8]; 5] = [
+    &[0x80, 0x80, 0x80, 1],
+    &[0xff, 0xff, 0xff, 0x7f],
+    &[0x80, 0x80, 0x80, 0],
+    &[0x80, 0x80, 0x80, 0x80, 1],
+    &[0xff, 0xff, 0xff, 0xff, 0x7f],
+];
+
+/// A bit flipped, a byte changed, added or dropped, the end cut off, a part doubled, or a byte made a long number.
 pub fn damaged(random: &mut Random, script: &[u8]) -> Vec<u8> {
     let mut bytes = script.to_vec();
     for _ in 0..random.from(1, 3) {
@@ -184,13 +199,14 @@ pub fn damaged(random: &mut Random, script: &[u8]) -> Vec<u8> {
             break;
         }
         let at = random.from(0, bytes.len() as u32 - 1) as usize;
-        match random.from(0, 6) {
+        match random.from(0, 7) {
             0 => bytes[at] ^= 1 << random.from(0, 7),
             1 => bytes[at] = random.from(0, 255) as u8,
             2 => bytes[at] = random.from(0, 5) as u8,
             3 => bytes.insert(at, random.from(0, 8) as u8),
             4 => drop(bytes.remove(at)),
             5 => bytes.truncate(at),
+            6 => drop(bytes.splice(at..=at, random.pick(&LONG).iter().copied())),
             _ => bytes.extend(bytes[at..].to_vec()),
         }
     }

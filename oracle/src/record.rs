@@ -1,8 +1,8 @@
 //! The recorded answers: a fixed list of scripts with what rustsat and document 01's questions give for them.
 
 use crate::{
-    desk::play,
-    format::{Answer, Case},
+    desk::{play, MOST_HEAD},
+    format::{put, Answer, Case, Command, Side, LEAST_OF_GROUPS},
     generate::{case, damaged, large_script, script, WHOLE_LOG},
     random::Random,
     refusals,
@@ -10,6 +10,36 @@ use crate::{
 
 /// Cases whose logs are longer than this are left out, but for the large ones: the file stays small.
 const MOST_LOG: u32 = 2_500;
+
+/// Two leaves, their join, each output both ways, and a close.
+fn joined(variable: u32, step: u32, leaves: [u32; 2]) -> Vec<u8> {
+    let mut script = vec![];
+    put(&mut script, variable);
+    put(&mut script, step);
+    leaves.iter().for_each(|literal| Command::Leaf(*literal).put(&mut script));
+    let [left, right] = [0, 1].map(|node| Side { node, offset: 0, limit: 0 });
+    Command::Join(left, right).put(&mut script);
+    [1, 2].iter().for_each(|value| Command::Request { node: 2, value: *value, direction: 3 }.put(&mut script));
+    Command::Close.put(&mut script);
+    script
+}
+
+/// Numbers of the head and literals of leaves at the largest number of so many groups, at the least of one group more, and
+/// at the head's limit.
+fn at_limits() -> Vec<Vec<u8>> {
+    let numbers = LEAST_OF_GROUPS.iter().flat_map(|least| [least - 1, *least]).chain([MOST_HEAD]);
+    numbers
+        .flat_map(|n| {
+            [
+                joined(n, 1, [0, 3]),
+                joined(n / 2, 1, [0, 3]),
+                joined(2, n, [0, 3]),
+                joined(n / 2 + 1, 1, [n, 3]),
+                joined(MOST_HEAD, MOST_HEAD - 5, [0, n]),
+            ]
+        })
+        .collect()
+}
 
 pub fn list() -> Vec<(Case, Answer)> {
     let mut list = vec![];
@@ -30,6 +60,9 @@ pub fn list() -> Vec<(Case, Answer)> {
         }
         kept
     };
+    for script in at_limits() {
+        add(Case { script, capacity: WHOLE_LOG }, MOST_LOG);
+    }
     let mut left = 1_300;
     while left > 0 {
         let script = script(&mut random, 16);

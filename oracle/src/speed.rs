@@ -3,7 +3,7 @@
 use std::{ffi::c_long, hint::black_box};
 
 use crate::{
-    desk::play,
+    desk::{play, MOST_HEAD},
     format::{put, Case, Command, Side},
     generate::WHOLE_LOG,
     refusals::PAIR,
@@ -29,13 +29,18 @@ fn window(node: u32, length: u32) -> Side {
     Side { node, offset, limit }
 }
 
-/// The head, and so many leaves.
-fn leaves(count: u32) -> Vec<u8> {
+/// A head, and so many leaves on the variables just below the first output variable.
+fn leaves_below(variable: u32, step: u32, count: u32) -> Vec<u8> {
     let mut script = vec![];
-    put(&mut script, count);
-    put(&mut script, 1);
-    (0..count).for_each(|i| Command::Leaf(2 * i).put(&mut script));
+    put(&mut script, variable);
+    put(&mut script, step);
+    (variable - count..variable).for_each(|leaf| Command::Leaf(2 * leaf).put(&mut script));
     script
+}
+
+/// The same from variable 0 and step 1 on.
+fn leaves(count: u32) -> Vec<u8> {
+    leaves_below(count, 1, count)
 }
 
 /// A request both ways.
@@ -43,10 +48,9 @@ fn request(node: u32, value: u32) -> Command {
     Command::Request { node, value, direction: 3 }
 }
 
-/// So many leaves, and joins of the two nodes that have waited longest, up to one root; then requests for the root's
+/// After so many leaves, joins of the two nodes that have waited longest, up to one root; then requests for the root's
 /// values 1 to `values`. `side` says what a join takes of a node of so many outputs.
-fn balanced(count: u32, side: fn(u32, u32) -> Side, values: u32) -> Vec<u8> {
-    let mut script = leaves(count);
+fn balanced(mut script: Vec<u8>, count: u32, side: fn(u32, u32) -> Side, values: u32) -> Vec<u8> {
     let mut lengths = vec![1; count as usize];
     for i in 0..count - 1 {
         let [left, right] = [2 * i, 2 * i + 1].map(|node| side(node, lengths[node as usize]));
@@ -73,19 +77,21 @@ pub fn script(name: &str) -> Option<Vec<u8>> {
     Some(match name {
         "head" => PAIR[..2].to_vec(),
         "whole" => PAIR.to_vec(),
-        "balanced-16" => balanced(16, plain, 16),
+        "balanced-16" => balanced(leaves(16), 16, plain, 16),
         // value 41 finds 45 bytes left and is refused by 14
-        "balanced-41" => balanced(41, plain, 40),
-        "windows" => balanced(64, window, 19),
+        "balanced-41" => balanced(leaves(41), 41, plain, 40),
+        // value 15 finds 76 bytes left and is refused by 14
+        "large-38" => balanced(leaves_below(MOST_HEAD, MOST_HEAD, 38), 38, plain, 14),
+        "windows" => balanced(leaves(64), 64, window, 19),
         // a leaf that is there: newest and oldest, since a search may begin at either end
         "leaf-newest" => repeated(leaves(64), Command::Leaf(126)),
         "leaf-oldest" => repeated(leaves(64), Command::Leaf(0)),
         // of two leaves, so that most requests fit
-        "held" => repeated(balanced(2, plain, 1), request(2, 1)),
+        "held" => repeated(balanced(leaves(2), 2, plain, 1), request(2, 1)),
         "held-leaf" => repeated(leaves(1), request(0, 1)),
         // value 14 finds 999 bytes left and is refused by 14. rustsat knows no end of a log: it carries out the refused
         // request, and desk.rs then asks question 14 and drops what the request wrote
-        "full" => balanced(64, plain, 64),
+        "full" => balanced(leaves(64), 64, plain, 64),
         _ => return None,
     })
 }

@@ -6,7 +6,7 @@ use Prim.Native.Nat.{ℕ, _+_, _≤_, _<_}
 use native.Mathlib.Omega.{arith}
 use lib.ListN.{length, length-append}
 use Rattle.pb.specs.Sum.{variable}
-use Rattle.sizes.specs.Sizes.{mostLeaves}
+use Rattle.sizes.specs.Sizes.{mostLeaves, mostVariable}
 use Rattle.totdb.specs.Nodes.{Node, leaf, joined, nodeAt, leaves, len, known, leafCount, sideLen, sideLeaves}
 use Rattle.totdb.specs.declared.Side.{Side}
 use Rattle.cert.specs.State.{State, Head}
@@ -128,7 +128,7 @@ module _ {h : Head} {c : ℕ} {ns store log : List ℕ} {z : Totals} {s : State}
     pub joined-short : (o : ℕ) → len (joined (s .nodes) o l r) ≤ 64
     joined-short o = omega (arith, short, long o)
 
-    pub low-variable : z .variable ≤ 100000000
+    pub low-variable : z .variable ≤ mostVariable
     low-variable = omega (arith, st .variable, few-variables (st .formed .treed), head-low h (st .formed .head) .0)
 
     pub joinable : Joinable ns (s .nodes) (z .nodes) (z .variable) l r

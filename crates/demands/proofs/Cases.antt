@@ -1,4 +1,4 @@
--- Every case of the list comes out as document 01 says.
+-- Every case of the list comes out as the documents say.
 use mathlib.Core.Path.{_≡_, refl}
 use mathlib.Core.List.{map}
 use Rattle.demands.specs.Cases.{Case, cases}

@@ -1,14 +1,16 @@
 -- The outcome reports the state that the play ended in: its log reads back as the records, and the answer counts them.
-use mathlib.Core.Path.{_≡_, refl, _∙_, ap}
-use mathlib.Core.List.{List}
+use mathlib.Core.Path.{_≡_, refl, sym, _∙_, ap}
+use mathlib.Core.List.{List, flatMap, List·Nodup, nodup-nil}
 use mathlib.Core.Option.{some}
 use Prim.Native.Nat.{ℕ, _-_}
-use lib.ListN.{length, replicate}
+use lib.ListN.{length, take, replicate}
 use lib.Seq.{take-append-seam}
-use Rattle.record.specs.Record.{Record, bytes, decodeLog}
-use Rattle.cert.specs.State.{State}
-use Rattle.player.specs.Player.{outcome, played}
-use Rattle.player.proofs.Endings.{Led, led-decodes, ending}
+use Rattle.record.specs.Record.{Record, numbers, bytes, clauses, decodeLog}
+use Rattle.record.proofs.Decode.{Small, decode-bytes}
+use Rattle.cert.specs.State.{State, start}
+use Rattle.player.specs.Player.{Outcome, outcome, played}
+use Rattle.player.proofs.Endings.{Led, nowhere, on, led-small, led-decodes, ending}
+use Rattle.player.proofs.Matching.{clauses-once}
 use Rattle.player.proofs.Refusal.{padded}
 use Rattle.demands.specs.Demands.{Holds, Reports}
 
@@ -31,3 +33,31 @@ pub some-holds : (bs : List ℕ) (capacity : ℕ) → (rs : List Record) × Hold
 some-holds bs capacity =
     let k = ending bs capacity in
     (k .state .log, reports-of bs capacity (k .number) (k .place) (k .state) (k .led) (k .is) .holds)
+
+-- ---- the log of any script
+
+-- The log cut at its length is the bytes of the records rs, their numbers fit, and no clause is written twice.
+pub record Logged (o : Outcome) (rs : List Record) : Type 0 where
+  pub is : take (o .used) (o .log) ≡ bytes rs
+  pub small : Small (flatMap numbers rs)
+  pub once : List·Nodup (clauses rs)
+
+led-once : {capacity : ℕ} {s : State} → Led capacity s → List·Nodup (clauses (s .log))
+unfolding start clauses
+led-once (nowhere e) = rw e nodup-nil
+led-once {capacity} {s} (on h cs f c a) = clauses-once h capacity cs s a
+
+logged : (bs : List ℕ) (capacity : ℕ) → (rs : List Record) × Logged (played bs capacity) rs
+unfolding outcome
+logged bs capacity =
+    let k = ending bs capacity in
+    let n = bytes (k .state .log) in
+    (k .state .log, rw (k .is) (record { is = take-append-seam n (replicate (capacity - length n) 0); small = led-small (k .led); once = led-once (k .led) }))
+
+-- Any records that the log reads back as are those that it stands for.
+pub held-log : (bs : List ℕ) (capacity : ℕ) (rs : List Record) → Holds (played bs capacity) rs → Logged (played bs capacity) rs
+held-log bs capacity rs k =
+    let l = logged bs capacity in
+    let one : some rs ≡ some (l .0) = sym (k .decodes) ∙ ap decodeLog (l .1 .is) ∙ decode-bytes (l .0) (l .1 .small) in
+    let same : rs ≡ l .0 = cc in
+    rw same (l .1)

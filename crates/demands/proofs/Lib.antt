@@ -4,5 +4,6 @@ pub mod Demand1
 pub mod Demand2
 pub mod Demand3
 pub mod Needed
+pub mod Fields
 pub mod Cases
 pub mod Worked

@@ -1,31 +1,35 @@
 -- Scripts that meet the hypotheses of the demands: one tree, its requests in two orders and places, one repeated and closed, each with its own log.
 use mathlib.Core.Path.{_≡_, refl, sym, subst}
-use mathlib.Core.Logic.{⊎-elim}
-use mathlib.Core.List.{List, [], _∷_, flatMap, List·Memᴰ, List·Memᴰ·head, List·Memᴰ·tail, List·Memᴰ·cases-cons}
-use Prim.Native.Nat.{ℕ}
+use mathlib.Core.Logic.{inr, ⊎-elim}
+use mathlib.Core.List.{List, [], _∷_, flatMap, List·Memᴰ, List·Memᴰ·head, List·Memᴰ·tail, List·Memᴰ·cases-cons, List·Memᴰ·not-nil}
+use Prim.Native.Nat.{ℕ, zero, suc, _≤_}
 use native.Mathlib.Omega.{arith}
-use Rattle.number.specs.Number.{Bytes}
+use Rattle.number.specs.Number.{Bytes, readIn, above}
 use Rattle.memo.specs.Closure.{SameMembers}
 use Rattle.memo.proofs.Lists.{of-three}
+use Rattle.record.specs.Record.{numbers}
 use Rattle.totdb.specs.declared.Side.{Side}
 use Rattle.cert.specs.Definitions.{if, only-if}
 use Rattle.cert.specs.Requests.{Request, request}
-use Rattle.cert.specs.State.{Head, State}
+use Rattle.cert.specs.State.{Head, State, start}
 use Rattle.player.specs.Called.{makes}
 use Rattle.player.specs.Player.{act, played}
 use Rattle.player.specs.Script.{commandNumbers, scriptBytes}
-use Rattle.player.specs.Verdict.{Reached}
+use Rattle.player.specs.Verdict.{Reached, at-head}
 use Rattle.player.specs.declared.Command.{Command}
 use Rattle.player.proofs.Runs.{asked, asked-from, asked-has}
 use Rattle.player.proofs.Accepted.{areShort, script-tested, accepted-reached}
 use Rattle.player.proofs.Coding.{areBytes, bytes-tested}
+use Rattle.player.proofs.Fronts.{cons-reads, nil-reads}
 use Rattle.player.proofs.Judged.{verdict-of}
 use Rattle.demands.specs.Demands.{Alike, Meets1, Meets2, Meets3, Demand1, Demand3}
 use Rattle.demands.specs.Needed.{Acts, NoneUndefined}
+use Rattle.demands.specs.Fields.{FifthGroup, RefusedBy}
 use Rattle.demands.proofs.Demand1.{demand-1}
 use Rattle.demands.proofs.Demand2.{demand-2}
 use Rattle.demands.proofs.Demand3.{demand-3}
 use Rattle.demands.proofs.Needed.{desk-card, last-acts, full-acts}
+use Rattle.demands.proofs.Fields.{big-fields}
 
 -- Four leaves; node 4 joins the first two, node 5 that and the third, node 6 node 5 from offset 1 on and the fourth. Of node 6 value 1, if, and value
 -- 2, only-if; of node 5 value 2, if.
@@ -128,3 +132,44 @@ full = let v = verdict-of first 100 first-bytes in let a = full-acts too-short (
 
 pub full-needs : NoneUndefined (act (full .1) (full .0))
 full-needs = desk-card .needed first 100 (full .1) (full .0) (full .2)
+
+-- Document 02, §2, of the first; of a step past the head's limit; of five groups for a step of the head, and for a leaf's literal.
+pub fields : (x : ℕ) → List·Memᴰ x (flatMap numbers (ends .state .log)) → x ≤ 268435455
+fields = big-fields .logs first 600 (ends .state .log) (ends .reports .holds) .1
+
+unfoldable pub past : List ℕ
+past = 2 ∷ 0x81 ∷ 0xc2 ∷ 0xd7 ∷ 0x2f ∷ []
+
+pub past-refused : RefusedBy 3 0 (played past 0)
+unfolding past areBytes readIn above
+past-refused =
+    big-fields .head past [] 0 2 100000001 (bytes-tested past refl) (omega arith) (omega arith)
+    (cons-reads (bytes-tested past refl) refl (cons-reads (bytes-tested (0x81 ∷ 0xc2 ∷ 0xd7 ∷ 0x2f ∷ []) refl) refl (nil-reads []))) .1 (inr (inr (omega arith)))
+
+unfoldable pub long : List ℕ
+long = 0xff ∷ 0xff ∷ 0xff ∷ 0xff ∷ 1 ∷ []
+
+long-fifth : FifthGroup long
+unfolding long
+long-fifth zero l = omega arith
+long-fifth (suc zero) l = omega arith
+long-fifth (suc (suc zero)) l = omega arith
+long-fifth (suc (suc (suc zero))) l = omega arith
+long-fifth (suc (suc (suc (suc i)))) l = absurd (omega arith)
+
+pub long-step : RefusedBy 2 0 (played (2 ∷ long) 0)
+unfolding long areBytes readIn above
+long-step =
+    let w = bytes-tested (2 ∷ long) refl in
+    big-fields .fifth-in-head (2 ∷ long) long (2 ∷ []) 0 w (omega arith) (omega arith) (omega arith) (cons-reads w refl (nil-reads long)) long-fifth
+
+pub long-literal : RefusedBy 2 1 (played (2 ∷ 1 ∷ 1 ∷ long) 0)
+unfolding long areBytes readIn above commandNumbers
+long-literal =
+    let w = bytes-tested (2 ∷ 1 ∷ 1 ∷ long) refl in
+    let u = bytes-tested (1 ∷ 1 ∷ long) refl in
+    let here = bytes-tested (1 ∷ long) refl in
+    let h : Head = record { variable = 2; step = 1 } in
+    big-fields .fifth (2 ∷ 1 ∷ 1 ∷ long) (1 ∷ long) long (1 ∷ []) 0 h [] (start h) w
+    (at-head (omega arith) (omega arith) (cons-reads w refl (cons-reads u refl (nil-reads (1 ∷ long)))) (omega arith) (omega arith) (omega arith))
+    (cons-reads here refl (nil-reads long)) (Command.Leaf 0, 0, [], refl) (λ _ m. List·Memᴰ·not-nil m) long-fifth

@@ -1,4 +1,5 @@
--- The whole case of document 01 and its cases marked (P), as one list: what the definitions give, and what the document says.
+-- The whole case of document 01, its cases marked (P), and those of document 02, §2, as one list: what the definitions give, and what the
+-- documents say.
 use mathlib.Core.List.{List, [], _∷_, _++_}
 use mathlib.Core.Option.{Option, none, some}
 use Prim.Native.Nat.{ℕ}
@@ -79,8 +80,15 @@ unfoldable window : List ℕ
 unfolding tree
 window = tree 1 ++ (3 ∷ 6 ∷ 1 ∷ 1 ∷ [])
 
+-- 100,000,000, and one more
+unfoldable most : List ℕ
+most = 0x80 ∷ 0xc2 ∷ 0xd7 ∷ 0x2f ∷ []
+
+unfoldable over : List ℕ
+over = 0x81 ∷ 0xc2 ∷ 0xd7 ∷ 0x2f ∷ []
+
 unfoldable pub cases : List Case
-unfolding plays reads steps-to defines calls-for pair pair-log tree window
+unfolding most over plays reads steps-to defines calls-for pair pair-log tree window
 cases =
     -- the whole case; with a log one byte too short; the sums it defines; what its request calls for
     plays (pair 1 1) 46 (answer 0 4 46 4 2 3 pair-log)
@@ -96,7 +104,16 @@ cases =
     ∷ reads (0x80 ∷ 0x00 ∷ []) bad
     ∷ plays (0x80 ∷ 0x00 ∷ 1 ∷ []) 0 (answer 2 0 0 0 0 0 [])
     ∷ reads (0xff ∷ 0xff ∷ 0x7f ∷ []) (number 2097151 [])
-    ∷ reads (0xff ∷ 0xff ∷ 0xff ∷ 0x01 ∷ []) bad
+    -- document 02, §2: a fourth group reads, a fifth gives 2; the head's limits, and one past each
+    ∷ reads (0xff ∷ 0xff ∷ 0xff ∷ 0x01 ∷ []) (number 4194303 [])
+    ∷ reads (0xff ∷ 0xff ∷ 0xff ∷ 0x7f ∷ []) (number 268435455 [])
+    ∷ reads (0xff ∷ 0xff ∷ 0xff ∷ 0xff ∷ 0x01 ∷ []) bad
+    ∷ plays (0xff ∷ 0xff ∷ 0xff ∷ 0xff ∷ 0x01 ∷ 1 ∷ []) 0 (answer 2 0 0 0 0 0 [])
+    ∷ plays (most ++ most) 0 (answer 0 0 0 0 0 0 [])
+    ∷ plays (over ++ most) 0 (answer 3 0 0 0 0 0 [])
+    ∷ plays (most ++ over) 0 (answer 3 0 0 0 0 0 [])
+    ∷ plays (0 ∷ 1 ∷ []) 0 (answer 0 0 0 0 0 0 [])
+    ∷ plays (0 ∷ 0 ∷ []) 0 (answer 3 0 0 0 0 0 [])
     -- value 0 and length + 1; the length passes
     ∷ plays (pair 0 1) 0 (answer 11 4 0 0 0 3 [])
     ∷ plays (pair 3 1) 0 (answer 11 4 0 0 0 3 [])

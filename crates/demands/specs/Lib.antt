@@ -1,3 +1,4 @@
 pub mod Demands
 pub mod Needed
+pub mod Fields
 pub mod Cases

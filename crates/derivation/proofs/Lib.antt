@@ -1,4 +1,3 @@
 -- The records of a clause, as the code writes them.
 pub mod ClauseRecords
 pub mod ClauseRecordsCases
-pub mod Twos

@@ -1,8 +1,8 @@
 -- What the code is handed for a clause's two records: the definitions that its step adds up, and the clause by its parts.
-use mathlib.Core.Bool.{Bool, cond, _&&_}
+use mathlib.Core.Bool.{cond}
 use mathlib.Core.List.{List, [], _∷_, _++_}
-use Prim.Native.Nat.{ℕ, _+_, _≤_, _<_}
-use lib.Dec.{leb, ltb}
+use Prim.Native.Nat.{ℕ, _+_}
+use lib.Dec.{ltb}
 use Rattle.sizes.specs.Sizes.{stepStop}
 use Rattle.pb.specs.Rules.{Token, step, literal}
 use Rattle.record.specs.Record.{derivation, clause, numbers}
@@ -59,27 +59,3 @@ unfolding stepTokens clauseNumbers
 wholeNumbers w =
     numbers (derivation (stepTokens (Step (w .this)) (Step (w .left)) (Step (w .right))))
     ++ clauseNumbers (record { step = w .step; left = Literal (w .«left_part»); right = Literal (w .«right_part»); output = w .output })
-
--- A number of two groups, and the test.
-pub record Two (x : ℕ) : Type 0 where
-  pub low : 128 ≤ x
-  pub high : x < 16384
-
-unfoldable pub isTwo : ℕ → Bool
-isTwo x = leb 128 x && ltb x 16384
-
--- All numbers of a clause have two groups, and the test.
-pub record Twos (w : Whole) : Type 0 where
-  pub this : Two (w .this)
-  pub left : Two (w .left)
-  pub right : Two (w .right)
-  pub step : Two (w .step)
-  pub left-part : Two (w .«left_part»)
-  pub right-part : Two (w .«right_part»)
-  pub output : Two (w .output)
-
-unfoldable pub areTwos : Whole → Bool
-unfolding isTwo
-areTwos w =
-    isTwo (w .this)
-    && (isTwo (w .left) && (isTwo (w .right) && (isTwo (w .step) && (isTwo (w .«left_part») && (isTwo (w .«right_part») && isTwo (w .output))))))

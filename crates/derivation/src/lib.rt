@@ -1,6 +1,5 @@
 // Writers of a clause's two records, the derivation of its step and the clause, and of a window's summands.
 ghost use mathlib.Core.Path.{_≡_};
-ghost use mathlib.Core.Bool.{true};
 ghost use mathlib.Core.List.{[], _∷_, _++_};
 ghost use Prim.Native.Nat.{ℕ, _+_, _≤_};
 ghost use lib.ListN.{length};
@@ -10,7 +9,7 @@ ghost use Rattle.record.specs.Record.{derivation, numbers, tokenNumbers};
 ghost use Rattle.record.specs.Writing.{buffer, Puts};
 ghost use Rattle.totdb.specs.Nodes.{Node, output};
 ghost use Rattle.cert.specs.Definitions.{Key, addSequence, ifPart, onlyIfPart, real};
-ghost use Rattle.derivation.specs.Operands.{stepAfter, nextStep, part, stepTokens, tokens, clauseNumbers, clauseRoom, wholeNumbers, isTwo, areTwos, Two, Twos};
+ghost use Rattle.derivation.specs.Operands.{stepAfter, nextStep, part, stepTokens, tokens, clauseNumbers, clauseRoom, wholeNumbers};
 
 // A definition as a derivation adds it: nothing, the step that defines it, or a literal axiom.
 pub enum SemDefinition {
@@ -210,126 +209,65 @@ pub struct Whole {
     pub output: u32,
 }
 
-// A number, which has two groups where `two` says so.
-fn push_number(log: &mut [u8], at: usize, x: u32, two: bool) -> usize
-    requires { ⌜ (at + 5 ≤ length (now log)) × (two ≡ true → Two x) ⌝ }
-    ensures { λ r. ⌜ Puts (buffer (now (log .entry)) at) (x ∷ []) (buffer (now (log .exit)) r) ⌝ }
-    ensures { λ r. ⌜ r ≤ at + 5 ⌝ }
-{
-    if two {
-        number::push_two(log, at, x);
-        return at + 2;
-    }
-    record::push(log, at, x)
-}
-
 // The beginning of the derivation, with the first of the three steps.
-fn push_first_step(log: &mut [u8], at: usize, x: u32, two: bool) -> usize
-    requires { ⌜ (at + 20 ≤ length (now log)) × (two ≡ true → Two x) ⌝ }
+fn push_first_step(log: &mut [u8], at: usize, x: u32) -> usize
+    requires { ⌜ at + 20 ≤ length (now log) ⌝ }
     ensures { λ r. ⌜ Puts (buffer (now (log .entry)) at) (2 ∷ 6 ∷ 0 ∷ x ∷ []) (buffer (now (log .exit)) r) ⌝ }
     ensures { λ r. ⌜ r ≤ at + 20 ⌝ }
 {
     let after_kind = record::push(log, at, 2);
     let after_count = record::push(log, after_kind, 6);
     let after_code = record::push(log, after_count, 0);
-    push_number(log, after_code, x, two)
+    record::push(log, after_code, x)
 }
 
 // A step and its addition to what stands before.
-fn push_added_step(log: &mut [u8], at: usize, x: u32, two: bool) -> usize
-    requires { ⌜ (at + 15 ≤ length (now log)) × (two ≡ true → Two x) ⌝ }
+fn push_added_step(log: &mut [u8], at: usize, x: u32) -> usize
+    requires { ⌜ at + 15 ≤ length (now log) ⌝ }
     ensures { λ r. ⌜ Puts (buffer (now (log .entry)) at) (0 ∷ x ∷ 2 ∷ []) (buffer (now (log .exit)) r) ⌝ }
     ensures { λ r. ⌜ r ≤ at + 15 ⌝ }
 {
     let after_code = record::push(log, at, 0);
-    let after_step = push_number(log, after_code, x, two);
+    let after_step = record::push(log, after_code, x);
     record::push(log, after_step, 2)
 }
 
 // The derivation of the step.
-fn push_whole_step(log: &mut [u8], at: usize, w: Whole, two: bool) -> usize
-    requires { ⌜ (at + 55 ≤ length (now log)) × (two ≡ true → Twos w) ⌝ }
+fn push_whole_step(log: &mut [u8], at: usize, w: Whole) -> usize
+    requires { ⌜ at + 55 ≤ length (now log) ⌝ }
     ensures { λ r. ⌜ Puts (buffer (now (log .entry)) at)
         (2 ∷ 6 ∷ 0 ∷ w .this ∷ 0 ∷ w .left ∷ 2 ∷ 0 ∷ w .right ∷ 2 ∷ 4 ∷ [])
         (buffer (now (log .exit)) r) ⌝ }
     ensures { λ r. ⌜ r ≤ at + 55 ⌝ }
 {
-    let after_this = push_first_step(log, at, w.this, two);
-    let after_left = push_added_step(log, after_this, w.left, two);
-    let after_right = push_added_step(log, after_left, w.right, two);
+    let after_this = push_first_step(log, at, w.this);
+    let after_left = push_added_step(log, after_this, w.left);
+    let after_right = push_added_step(log, after_left, w.right);
     record::push(log, after_right, 4)
 }
 
 // The clause.
-fn push_whole_clause(log: &mut [u8], at: usize, w: Whole, two: bool) -> usize
-    requires { ⌜ (at + 30 ≤ length (now log)) × (two ≡ true → Twos w) ⌝ }
+fn push_whole_clause(log: &mut [u8], at: usize, w: Whole) -> usize
+    requires { ⌜ at + 30 ≤ length (now log) ⌝ }
     ensures { λ r. ⌜ Puts (buffer (now (log .entry)) at)
         (3 ∷ w .step ∷ 3 ∷ w .«left_part» ∷ w .«right_part» ∷ w .output ∷ [])
         (buffer (now (log .exit)) r) ⌝ }
-    ensures { λ r. ⌜ r ≤ at + 30 ⌝ }
 {
     let after_kind = record::push(log, at, 3);
-    let after_step = push_number(log, after_kind, w.step, two);
+    let after_step = record::push(log, after_kind, w.step);
     let after_count = record::push(log, after_step, 3);
-    let after_left = push_number(log, after_count, w.left_part, two);
-    let after_right = push_number(log, after_left, w.right_part, two);
-    push_number(log, after_right, w.output, two)
+    let after_left = record::push(log, after_count, w.left_part);
+    let after_right = record::push(log, after_left, w.right_part);
+    record::push(log, after_right, w.output)
 }
 
 // Both records.
-fn push_whole_both(log: &mut [u8], at: usize, w: Whole, two: bool) -> usize
-    requires { ⌜ (at + clauseRoom ≤ length (now log)) × (two ≡ true → Twos w) ⌝ }
-    ensures { λ r. ⌜ Puts (buffer (now (log .entry)) at) (wholeNumbers w) (buffer (now (log .exit)) r) ⌝ }
-    ensures { λ r. ⌜ r ≤ at + clauseRoom ⌝ }
-{
-    let middle = push_whole_step(log, at, w, two);
-    push_whole_clause(log, middle, w, two)
-}
-
-// Whether a number has two groups.
-fn is_two(x: u32) -> bool
-    ensures { λ r. ⌜ r ≡ isTwo x ⌝ }
-{
-    if x < 128 {
-        return false;
-    }
-    x < 16384
-}
-
-// Whether all seven numbers have two groups.
-fn are_twos(w: Whole) -> bool
-    ensures { λ r. ⌜ r ≡ areTwos w ⌝ }
-{
-    if !is_two(w.this) {
-        return false;
-    }
-    if !is_two(w.left) {
-        return false;
-    }
-    if !is_two(w.right) {
-        return false;
-    }
-    if !is_two(w.step) {
-        return false;
-    }
-    if !is_two(w.left_part) {
-        return false;
-    }
-    if !is_two(w.right_part) {
-        return false;
-    }
-    is_two(w.output)
-}
-
-// Both records. Where all numbers have two groups the places of their bytes are known.
 pub fn push_whole(log: &mut [u8], at: usize, w: Whole) -> usize
     requires { ⌜ at + clauseRoom ≤ length (now log) ⌝ }
     ensures { λ r. ⌜ Puts (buffer (now (log .entry)) at) (wholeNumbers w) (buffer (now (log .exit)) r) ⌝ }
 {
-    if are_twos(w) {
-        return push_whole_both(log, at, w, true);
-    }
-    push_whole_both(log, at, w, false)
+    let middle = push_whole_step(log, at, w);
+    push_whole_clause(log, middle, w)
 }
 
 // ---- a window's summands

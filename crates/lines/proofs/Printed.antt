@@ -7,13 +7,13 @@ use Rattle.sizes.specs.Sizes.{mostBytes}
 use Rattle.record.specs.Record.{Record, clauses}
 use Rattle.player.specs.Player.{played}
 use Rattle.demands.specs.Demands.{Holds}
-use Rattle.demands.proofs.Holds.{some-holds}
+use Rattle.demands.proofs.Holds.{some-holds, held-log}
 use Rattle.order.specs.Order.{before, sortBy}
 use Rattle.order.proofs.Precedes.{sort-ascending, ascending-only}
 use Rattle.order.proofs.Sort.{sort-perm}
 use Rattle.lines.specs.Printed.{Printed, Shows}
 use Rattle.lines.specs.Sheet.{refusal, sheetOf, sheet}
-use Rattle.lines.proofs.Played.{held-log, clauses-in}
+use Rattle.lines.proofs.Played.{clauses-in}
 
 module _ (script : List ℕ) where
   -- Of any records that the log reads back as.

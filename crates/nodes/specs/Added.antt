@@ -5,7 +5,7 @@ use mathlib.Core.Logic.{_≢_}
 use mathlib.Core.List.{List, [], _∷_, _++_}
 use Prim.Native.Nat.{ℕ, _+_, _-_, _*_, _^_, _≤_, _<_}
 use lib.ListN.{length, replicate}
-use Rattle.sizes.specs.Sizes.{mostLeaves, mostNodes, width, leftColumn, listColumn, leftWindow, rightWindow}
+use Rattle.sizes.specs.Sizes.{mostLeaves, mostNodes, mostVariable, width, leftColumn, listColumn, leftWindow, rightWindow}
 use Rattle.totdb.specs.Nodes.{Node, nodeAt, len, sideLen, leafCount, taken}
 use Rattle.totdb.specs.declared.Side.{Side}
 use Rattle.rows.specs.Rows.{Table}
@@ -34,7 +34,7 @@ pub record Joinable (ns : List ℕ) (t : List Node) (n variable : ℕ) (l r : Si
   pub left-in : l .offset + sideLen t l ≤ len (nodeAt t (l .node))
   pub right-in : r .offset + sideLen t r ≤ len (nodeAt t (r .node))
   pub short : sideLen t l + sideLen t r ≤ width
-  pub low : variable ≤ 100000000
+  pub low : variable ≤ mostVariable
 
 -- A side over a node of the table, with its length k.
 pub record Sided (ns : List ℕ) (t : List Node) (s : Side) (k : ℕ) : Type 0 where

@@ -5,7 +5,7 @@ ghost use mathlib.Core.List.{List, [], _∷_, _++_};
 ghost use Prim.Native.Nat.{_+_, _≤_, _<_};
 ghost use lib.ListN.{length, set};
 ghost use lib.Seq.{paste, sets};
-ghost use Rattle.sizes.specs.Sizes.{row, rowAt, takenAt, width, mostNodes};
+ghost use Rattle.sizes.specs.Sizes.{row, rowAt, takenAt, width, mostNodes, mostVariable};
 ghost use Rattle.totdb.specs.Nodes.{Node, leaf, nodeAt, len, joined, part, plainOr, sideLen, sideLeaves, leafCount};
 ghost use Rattle.rows.specs.Rows.{Table};
 ghost use Rattle.nodes.specs.Added.{Leafable, Joinable, Sided, Small, leafNumbers, sideNumbers, joinNumbers};
@@ -139,7 +139,7 @@ fn join_row(
     r: Side,
     r_len: usize,
 ) -> [u32; sizes::ROW]
-    requires { ⌜ (n < mostNodes) × (variable ≤ 100000000) × («l_len» + «r_len» ≤ width) ⌝ }
+    requires { ⌜ (n < mostNodes) × (variable ≤ mostVariable) × («l_len» + «r_len» ≤ width) ⌝ }
     requires { ⌜ ((t : List Node) × Sided (now nodes) t l «l_len» × Sided (now nodes) t r «r_len») ⌝ }
     ensures { λ _. ⌜ now (nodes .exit) ≡ now (nodes .entry) ⌝ }
     ensures { λ e. ⌜ ((t : List Node) → Sided (now (nodes .entry)) t l «l_len» → Sided (now (nodes .entry)) t r «r_len»

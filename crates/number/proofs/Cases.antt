@@ -37,22 +37,27 @@ cases =
     -- one group
     reads (0x00 ∷ []) (number 0 [])
     ∷ reads (0x7f ∷ []) (number 127 [])
-    -- two groups and three; the bytes after the number are kept
+    -- two groups, three and four; the bytes after the number are kept
     ∷ reads (0x80 ∷ 0x01 ∷ []) (number 128 [])
     ∷ reads (0x80 ∷ 0x01 ∷ 0x80 ∷ 0x00 ∷ []) (number 128 (0x80 ∷ 0x00 ∷ []))
     ∷ reads (0xff ∷ 0xff ∷ 0x7f ∷ []) (number 2097151 [])
+    ∷ reads (0x80 ∷ 0x80 ∷ 0x80 ∷ 0x01 ∷ []) (number 2097152 [])
+    ∷ reads (0xff ∷ 0xff ∷ 0xff ∷ 0x7f ∷ []) (number 268435455 [])
     -- not the shortest form
     ∷ reads (0x80 ∷ 0x00 ∷ []) bad
     ∷ reads (0x80 ∷ 0x80 ∷ 0x00 ∷ []) bad
-    -- no byte; a group that another should follow; a fourth group
+    ∷ reads (0x80 ∷ 0x80 ∷ 0x80 ∷ 0x00 ∷ []) bad
+    -- no byte; a group that another should follow; a fifth group
     ∷ reads [] bad
     ∷ reads (0x80 ∷ []) bad
-    ∷ reads (0xff ∷ 0xff ∷ 0xff ∷ 0x01 ∷ []) bad
+    ∷ reads (0x80 ∷ 0x80 ∷ 0x80 ∷ []) bad
+    ∷ reads (0x80 ∷ 0x80 ∷ 0x80 ∷ 0x80 ∷ 0x01 ∷ []) bad
+    ∷ reads (0xff ∷ 0xff ∷ 0xff ∷ 0xff ∷ 0x01 ∷ []) bad
     -- at a place: a number, no number, past the end
     ∷ reads-at (7 ∷ 0x80 ∷ 0x01 ∷ 9 ∷ []) 1 (Number 128 3) 0
     ∷ reads-at (7 ∷ 0x80 ∷ 0x00 ∷ []) 1 Bad 2
     ∷ reads-at (7 ∷ []) 2 Bad 2
-    -- the least and the most of one, two and three groups; a number that takes four
+    -- the least and the most of one, two, three and four groups; a number that takes five
     ∷ encodes 0 (0x00 ∷ [])
     ∷ encodes 127 (0x7f ∷ [])
     ∷ encodes 128 (0x80 ∷ 0x01 ∷ [])
@@ -60,6 +65,8 @@ cases =
     ∷ encodes 16384 (0x80 ∷ 0x80 ∷ 0x01 ∷ [])
     ∷ encodes 2097151 (0xff ∷ 0xff ∷ 0x7f ∷ [])
     ∷ encodes 2097152 (0x80 ∷ 0x80 ∷ 0x80 ∷ 0x01 ∷ [])
+    ∷ encodes 268435455 (0xff ∷ 0xff ∷ 0xff ∷ 0x7f ∷ [])
+    ∷ encodes 268435456 (0x80 ∷ 0x80 ∷ 0x80 ∷ 0x80 ∷ 0x01 ∷ [])
     -- a write at the end, and one before other bytes, which stay
     ∷ writes (7 ∷ 0 ∷ 0 ∷ []) 1 128 (7 ∷ 0x80 ∷ 0x01 ∷ [])
     ∷ writes (7 ∷ 0 ∷ 0 ∷ 9 ∷ []) 1 128 (7 ∷ 0x80 ∷ 0x01 ∷ 9 ∷ [])

@@ -8,7 +8,7 @@ use native.Mathlib.Decide.{decLt}
 use native.Mathlib.Nat.{one-le-pow}
 use native.Mathlib.Omega.{arith}
 use borrow.Author.Tests.{lt-ltb, le-ltb}
-use lib.ListN.{length, drop}
+use lib.ListN.{length, getD, drop}
 use Rattle.number.specs.Number.{groups, encodeIn, encode, Front, number, bad, above, readIn, read, Bytes}
 
 -- ---- encode
@@ -58,13 +58,17 @@ encode-more (suc n) h = rw (in-more n (suc n) h, same (suc n / 128) n (suc n / 1
 pub encode-two : (x : ℕ) → 128 ≤ x → x < 16384 → encode x ≡ (x % 128 + 128) ∷ (x / 128) ∷ []
 encode-two x h k = rw (encode-more x h, encode-last (x / 128) (omega arith))
 
--- the same, from the number that `push_two` makes of both bytes
-pub encode-pair : (x : ℕ) → 128 ≤ x → x < 16384 → encode x ≡ ((x + x / 128 * 128 + 128) % 256) ∷ ((x + x / 128 * 128 + 128) / 256) ∷ []
-encode-pair x h k =
-    let e = x + x / 128 * 128 + 128 in
-    let low : e % 256 ≡ x % 128 + 128 = omega arith in
-    let high : e / 256 ≡ x / 128 = omega arith in
-    encode-two x h k ∙ rw (low, high)
+pub encode-three : (x : ℕ) → 16384 ≤ x → x < 2097152 → encode x ≡ (x % 128 + 128) ∷ (x / 128 % 128 + 128) ∷ (x / 16384) ∷ []
+encode-three x h k =
+    let high : x / 128 / 128 ≡ x / 16384 = omega arith in
+    rw (encode-more x (omega arith), encode-two (x / 128) (omega arith) (omega arith), high)
+
+pub encode-four : (x : ℕ) → 2097152 ≤ x → x < 268435456
+    → encode x ≡ (x % 128 + 128) ∷ (x / 128 % 128 + 128) ∷ (x / 16384 % 128 + 128) ∷ (x / 2097152) ∷ []
+encode-four x h k =
+    let middle : x / 128 / 128 ≡ x / 16384 = omega arith in
+    let high : x / 128 / 16384 ≡ x / 2097152 = omega arith in
+    rw (encode-more x (omega arith), encode-three (x / 128) (omega arith) (omega arith), middle, high)
 
 pub encode-some : (x : ℕ) → 0 < length (encode x)
 encode-some = by-groups (λ x. 0 < length (encode x)) (λ x h. rw (encode-last x h) (omega arith)) (λ x h _. rw (encode-more x h) (omega arith))
@@ -108,6 +112,13 @@ readIn-last g b bs h = rw (lt-ltb b 128 h, readIn)
 pub readIn-more : (g b : ℕ) (bs : List ℕ) → 128 ≤ b → readIn (suc g) (b ∷ bs) ≡ above b (readIn g bs)
 unfolding readIn
 readIn-more g b bs h = rw (le-ltb b 128 h, readIn)
+
+-- what goes on after the limit does not read
+pub readIn-over : (g : ℕ) (bs : List ℕ) → ((i : ℕ) → i < g → 128 ≤ getD bs i 0) → readIn g bs ≡ bad
+unfolding readIn above
+readIn-over zero bs h = refl
+readIn-over (suc g) [] h = refl
+readIn-over (suc g) (b ∷ bs) h = rw (readIn-more g b bs (h 0 (omega arith)), readIn-over g bs (λ i l. h (suc i) (omega arith)))
 
 above-some : (b x : ℕ) (bs : List ℕ) → 0 < x → above b (number x bs) ≡ number (b - 128 + 128 * x) bs
 unfolding above

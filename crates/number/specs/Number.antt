@@ -9,7 +9,7 @@ use Rattle.number.specs.declared.Reading.the-variants.{Number, Bad}
 
 -- A number that is read takes at most so many groups.
 abbrev pub groups : ℕ
-groups = 3
+groups = 4
 
 -- Every element is a byte. (`getD` gives 0 past the end.)
 unfoldable pub Bytes : List ℕ → Type 0

@@ -6,7 +6,7 @@ ghost use lib.ListN.{length, getD};
 ghost use Rattle.number.specs.Number.{encode, readFrom, readAt, written};
 
 // A number that is read takes at most so many groups of seven bits.
-const GROUPS: usize = 3;
+pub const GROUPS: usize = 4;
 
 // What stands at a place: a number, with the place after it; or bytes that are no number.
 pub enum Reading {
@@ -63,14 +63,34 @@ pub fn read(s: &[u8], at: usize) -> Reading
     read_groups(s, at, GROUPS)
 }
 
-// A number of two groups. Its bytes are made as one number, so that one store writes both.
-pub fn push_two(log: &mut [u8], at: usize, x: u32)
+// A number of two groups.
+fn push_two(log: &mut [u8], at: usize, x: u32)
     requires { ⌜ (at + 2 ≤ length (now log)) × (128 ≤ x) × (x < 16384) ⌝ }
     ensures { λ _. ⌜ now (log .exit) ≡ written (now (log .entry)) at x ⌝ }
 {
-    let e = x + x / 128 * 128 + 128;
-    log[at] = (e % 256) as u8;
-    log[at + 1] = (e / 256) as u8;
+    log[at] = (x % 128 + 128) as u8;
+    log[at + 1] = (x / 128) as u8;
+}
+
+// A number of three groups.
+fn push_three(log: &mut [u8], at: usize, x: u32)
+    requires { ⌜ (at + 3 ≤ length (now log)) × (16384 ≤ x) × (x < 2097152) ⌝ }
+    ensures { λ _. ⌜ now (log .exit) ≡ written (now (log .entry)) at x ⌝ }
+{
+    log[at] = (x % 128 + 128) as u8;
+    log[at + 1] = (x / 128 % 128 + 128) as u8;
+    log[at + 2] = (x / 16384) as u8;
+}
+
+// A number of four groups.
+fn push_four(log: &mut [u8], at: usize, x: u32)
+    requires { ⌜ (at + 4 ≤ length (now log)) × (2097152 ≤ x) × (x < 268435456) ⌝ }
+    ensures { λ _. ⌜ now (log .exit) ≡ written (now (log .entry)) at x ⌝ }
+{
+    log[at] = (x % 128 + 128) as u8;
+    log[at + 1] = (x / 128 % 128 + 128) as u8;
+    log[at + 2] = (x / 16384 % 128 + 128) as u8;
+    log[at + 3] = (x / 2097152) as u8;
 }
 
 // A number of any size.
@@ -90,7 +110,7 @@ fn push_groups(log: &mut [u8], at: usize, x: u32) -> usize
     i + 1
 }
 
-// Writes x at `at`, whether or not `read` takes as many groups: the place after it. Most numbers of a log have one or two
+// Writes x at `at`, whether or not `read` takes as many groups: the place after it. The numbers of a log have at most four
 // groups, and need no loop. Five groups hold every u32, so there is room for it.
 pub fn push(log: &mut [u8], at: usize, x: u32) -> usize
     requires { ⌜ at + 5 ≤ length (now log) ⌝ }
@@ -104,6 +124,14 @@ pub fn push(log: &mut [u8], at: usize, x: u32) -> usize
     if x < 16384 {
         push_two(log, at, x);
         return at + 2;
+    }
+    if x < 2097152 {
+        push_three(log, at, x);
+        return at + 3;
+    }
+    if x < 268435456 {
+        push_four(log, at, x);
+        return at + 4;
     }
     push_groups(log, at, x)
 }

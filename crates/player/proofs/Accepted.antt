@@ -9,7 +9,7 @@ use borrow.Author.Tests.{leb-true}
 use lib.Dec.{leb}
 use lib.ListN.{length}
 use Rattle.memo.proofs.Booleans.{and-true}
-use Rattle.number.specs.Number.{Bytes, encode, number, bad, readIn}
+use Rattle.number.specs.Number.{groups, Bytes, encode, number, bad, readIn}
 use Rattle.memo.proofs.Lists.{flatMap-append}
 use Rattle.totdb.specs.declared.Side.{Side}
 use Rattle.cert.specs.State.{State, Head}
@@ -128,14 +128,14 @@ accepted-reached {bs} {capacity} {h} {cs} w i e =
 unfoldable pub areShort : List ℕ → Bool
 unfolding encode
 areShort [] = true
-areShort (x ∷ ns) = leb (length (encode x)) 3 && areShort ns
+areShort (x ∷ ns) = leb (length (encode x)) groups && areShort ns
 
-short-tested : (ns : List ℕ) → areShort ns ≡ true → (x : ℕ) → List·Memᴰ x ns → length (encode x) ≤ 3
+short-tested : (ns : List ℕ) → areShort ns ≡ true → (x : ℕ) → List·Memᴰ x ns → length (encode x) ≤ groups
 unfolding areShort
 short-tested [] e x m = absurd (List·Memᴰ·not-nil m)
 short-tested (n ∷ ns) e x m =
-    let t = and-true (leb (length (encode n)) 3) (areShort ns) e in
-    ⊎-elim (λ q. rw q (leb-true (length (encode n)) 3 (t .0))) (short-tested ns (t .1) x) (List·Memᴰ·cases-cons m)
+    let t = and-true (leb (length (encode n)) groups) (areShort ns) e in
+    ⊎-elim (λ q. rw q (leb-true (length (encode n)) groups (t .0))) (short-tested ns (t .1) x) (List·Memᴰ·cases-cons m)
 
 pub script-tested : (bs : List ℕ) (h : Head) (cs : List Command) → bs ≡ scriptBytes h cs
     → areShort (h .variable ∷ h .step ∷ flatMap commandNumbers cs) ≡ true → IsScript bs h cs

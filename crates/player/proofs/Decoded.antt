@@ -8,7 +8,7 @@ use Prim.Native.Nat.{ℕ, zero, suc, _+_, _-_, _*_, _≤_, _<_, _^_}
 use native.Mathlib.Decide.{decLe}
 use native.Mathlib.Omega.{arith}
 use lib.ListN.{length}
-use Rattle.sizes.specs.Sizes.{mostHead, mostBytes, width}
+use Rattle.sizes.specs.Sizes.{mostHead, mostBytes, mostVariable, width}
 use Rattle.number.specs.Number.{groups}
 use Rattle.pb.specs.Sum.{neg}
 use Rattle.memo.proofs.Lists.{flatMap-append}
@@ -327,7 +327,7 @@ delete-low b s p l =
           q .froms;
     }
 
-act-low : (h : Head) (b : ℕ) → h .variable ≤ mostHead → 2008200 ≤ b → (c : Command) (s : State) → firstNo (questions h (s .nodes) c) ≡ 0 → Sound h s
+act-low : (h : Head) (b : ℕ) → h .variable ≤ mostHead → 2 * mostVariable + 2 ≤ b → (c : Command) (s : State) → firstNo (questions h (s .nodes) c) ≡ 0 → Sound h s
     → Low h b s → LowIf b (act c s .nodes) (act c s)
 unfolding act
 act-low h b v l (Command.Leaf m) s q p k = by (known (s .nodes) m)
@@ -348,12 +348,12 @@ act-low h b v l (Command.Request n w d) s q p k =
     (requests-right t n w d f) a s (k .low))
 act-low h b v l Command.Close s q p k = subst (λ (x : List Node). LowIf b x (delete s)) (unfold delete in refl) (delete-low b s (k .low))
 
-low-act : (h : Head) (b : ℕ) → h .variable ≤ mostHead → 2008200 ≤ b → (c : Command) (s : State) → firstNo (questions h (s .nodes) c) ≡ 0 → Sound h s
+low-act : (h : Head) (b : ℕ) → h .variable ≤ mostHead → 2 * mostVariable + 2 ≤ b → (c : Command) (s : State) → firstNo (questions h (s .nodes) c) ≡ 0 → Sound h s
     → Low h b s → Low h b (act c s)
 low-act h b v l c s q p k =
     record { treed = treed-act h c s q p (k .treed); counted = counted-act h c s q p (k .counted); low = act-low h b v l c s q p k }
 
-pub all-low : {h : Head} {capacity : ℕ} {cs : List Command} {u : State} (b : ℕ) → h .variable ≤ mostHead → 2008200 ≤ b
+pub all-low : {h : Head} {capacity : ℕ} {cs : List Command} {u : State} (b : ℕ) → h .variable ≤ mostHead → 2 * mostVariable + 2 ≤ b
     → AllPassed h capacity cs (start h) u → Low h b u
 all-low {h} b v l a = all-keep (Low h b) (low-act h b v l) a (sound-start h) (low-start h b)
 
@@ -364,18 +364,18 @@ all-fit : {h : Head} {capacity : ℕ} {cs : List Command} {s u : State} → AllP
 all-fit all-done l = l
 all-fit (all-more q a) l = all-fit a (q .fits)
 
-most-three : 2097152 ≡ 128 ^ groups
-most-three = refl
+most-number : 268435456 ≡ 128 ^ groups
+most-number = refl
 
 -- Every number that an accepted script writes fits.
 pub log-fits : {h : Head} {capacity : ℕ} {cs : List Command} {u : State} → headFits h ≡ true → capacity ≤ mostBytes → AllPassed h capacity cs (start h) u
     → Small (flatMap numbers (u .log))
 log-fits {h} {capacity} {cs} {u} e c a =
     let x = head-low h e in
-    let k = all-low 2097152 (x .0) (omega arith) a in
+    let k = all-low 268435456 (x .0) (omega arith) a in
     let f : length (bytes (u .log)) ≤ capacity = all-fit a (start-empty h capacity) in
     log-small (u .log) (omega arith)
-    (subst (λ (b : ℕ). AllBelow b (flatMap values (u .log))) most-three (k .low (omega (arith, k .counted .next, two-bytes (u .log))) .all))
+    (subst (λ (b : ℕ). AllBelow b (flatMap values (u .log))) most-number (k .low (omega (arith, k .counted .next, two-bytes (u .log))) .all))
 
 pub log-decodes : {h : Head} {capacity : ℕ} {cs : List Command} {u : State} → headFits h ≡ true → capacity ≤ mostBytes
     → AllPassed h capacity cs (start h) u → decodeLog (bytes (u .log)) ≡ some (u .log)

@@ -106,12 +106,12 @@ answer-among : (f : Node → Bool) (g : Node → List ℕ) (n : ℕ) → ((a : N
     → Answer (List·Memᴰ n (flatMap g t)) (notb (any f t))
 answer-among f g n h t = answer-map (λ k. mem-flatMap g (k .1) (k .2)) (of-flatMap g t) (answer-any f h t)
 
--- ---- questions 1 and 3: document 01's numerals, and the names of `sizes`
+-- ---- questions 1 and 3: the documents' numerals, and the names of `sizes`
 
 bytes-answer : (n : ℕ) → Answer (65536 < n) (leb n mostBytes)
 bytes-answer n = answer-map {P = mostBytes < n} (λ l. omega arith) (λ l. omega arith) (answer-most n mostBytes)
 
-head-answer : (n : ℕ) → Answer (1000000 < n) (leb n mostHead)
+head-answer : (n : ℕ) → Answer (100000000 < n) (leb n mostHead)
 head-answer n = answer-map {P = mostHead < n} (λ l. omega arith) (λ l. omega arith) (answer-most n mostHead)
 
 pub sizes : (bs : List ℕ) (capacity : ℕ) → Answer ((mostBytes < length bs) ⊎ (mostBytes < capacity)) (leb (length bs) mostBytes && leb capacity mostBytes)

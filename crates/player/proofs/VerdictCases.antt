@@ -81,9 +81,12 @@ cases =
     case (3 ∷ 1 ∷ []) 65537 1 0
     -- 2: a head number does not read
     ∷ case (3 ∷ []) 0 2 0
-    -- 3: a variable and a step past 1,000,000, and step 0
-    ∷ case (0xc1 ∷ 0x84 ∷ 0x3d ∷ 1 ∷ []) 0 3 0
-    ∷ case (3 ∷ 0xc1 ∷ 0x84 ∷ 0x3d ∷ []) 0 3 0
+    -- 2: a head number of five groups, before 3 is put to the other
+    ∷ case (0x80 ∷ 0x80 ∷ 0x80 ∷ 0x80 ∷ 1 ∷ 0 ∷ []) 0 2 0
+    -- 3: a variable and a step past 100,000,000, the largest number, and step 0
+    ∷ case (0x81 ∷ 0xc2 ∷ 0xd7 ∷ 0x2f ∷ 1 ∷ []) 0 3 0
+    ∷ case (3 ∷ 0x81 ∷ 0xc2 ∷ 0xd7 ∷ 0x2f ∷ []) 0 3 0
+    ∷ case (0xff ∷ 0xff ∷ 0xff ∷ 0x7f ∷ 1 ∷ []) 0 3 0
     ∷ case (3 ∷ 0 ∷ []) 0 3 0
     -- 2: a code that does not read, and a number after a code
     ∷ case (leaves ++ (0x80 ∷ 0 ∷ [])) 0 2 4
@@ -115,8 +118,9 @@ cases =
     ∷ case (joined ++ (3 ∷ 3 ∷ 2 ∷ 4 ∷ [])) 0 12 5
     -- 14: a close takes two bytes
     ∷ case (leaves ++ (4 ∷ [])) 1 14 4
-    -- none
+    -- none; the largest head
     ∷ case (leaves ++ (4 ∷ [])) 2 0 4
+    ∷ case (0x80 ∷ 0xc2 ∷ 0xd7 ∷ 0x2f ∷ 0x80 ∷ 0xc2 ∷ 0xd7 ∷ 0x2f ∷ []) 0 0 0
     ∷ []
 
 pub all-met : Each cases

@@ -19,10 +19,10 @@ use Rattle.player.specs.declared.Command.the-variants.{Leaf, Join, Reque
 
 -- ---- reading
 
--- The numbers ns stand at the front of bs, each in shortest form and of at most three groups, and rest comes after them.
+-- The numbers ns stand at the front of bs, each in shortest form and of at most four groups (document 02, §2), and rest comes after them.
 pub record Reads (bs ns rest : List ℕ) : Type 0 where
   pub coded : bs ≡ flatMap encode ns ++ rest
-  pub short : (x : ℕ) → List·Memᴰ x ns → length (encode x) ≤ 3
+  pub short : (x : ℕ) → List·Memᴰ x ns → length (encode x) ≤ 4
 
 -- The script of a head and commands.
 abbrev pub IsScript : List ℕ → Head → List Command → Type 0
@@ -92,8 +92,8 @@ pub data First (P : ℕ → Type 0) : List ℕ → ℕ → Type 0 where
 -- Past question 1, the head reads, question 3 is answered yes, and the commands cs are read and answered yes to every question:
 -- this leaves the state s, and the bytes rest are to be read.
 pub data Reached (bs : List ℕ) (capacity : ℕ) (h : Head) : List Command → State → List ℕ → Type 0 where
-  at-head : {rest : List ℕ} → length bs ≤ 65536 → capacity ≤ 65536 → Reads bs (h .variable ∷ h .step ∷ []) rest → h .variable ≤ 1000000
-      → 1 ≤ h .step → h .step ≤ 1000000 → Reached bs capacity h [] (start h) rest
+  at-head : {rest : List ℕ} → length bs ≤ 65536 → capacity ≤ 65536 → Reads bs (h .variable ∷ h .step ∷ []) rest → h .variable ≤ 100000000
+      → 1 ≤ h .step → h .step ≤ 100000000 → Reached bs capacity h [] (start h) rest
   one-more : {cs : List Command} {s : State} {at-command rest : List ℕ} {c : Command} → Reached bs capacity h cs s at-command
       → (List·Memᴰ Close cs → ⊥) → Reads at-command (commandNumbers c) rest → ((n : ℕ) → No h capacity s c n → ⊥)
       → Reached bs capacity h (cs ++ (c ∷ [])) (act c s) rest
@@ -108,9 +108,9 @@ pub data Verdict (bs : List ℕ) (capacity : ℕ) : ℕ → ℕ → State → Ty
   no-1 : (65536 < length bs) ⊎ (65536 < capacity) → Verdict bs capacity 1 0 untouched
   -- Does the next number read? Both head numbers come before question 3.
   no-2-head : length bs ≤ 65536 → capacity ≤ 65536 → ((v n : ℕ) (rest : List ℕ) → Reads bs (v ∷ n ∷ []) rest → ⊥) → Verdict bs capacity 2 0 untouched
-  -- Head: variable at most 1,000,000, step 1 to 1,000,000?
+  -- Head: variable at most 100,000,000, step 1 to 100,000,000 (document 02, §2)?
   no-3 : {v n : ℕ} {rest : List ℕ} → length bs ≤ 65536 → capacity ≤ 65536 → Reads bs (v ∷ n ∷ []) rest
-      → (1000000 < v) ⊎ ((n < 1) ⊎ (1000000 < n)) → Verdict bs capacity 3 0 untouched
+      → (100000000 < v) ⊎ ((n < 1) ⊎ (100000000 < n)) → Verdict bs capacity 3 0 untouched
   -- Does the next number read? A script may end only where a code would stand.
   no-2-code : {h : Head} {cs : List Command} {s : State} {rest : List ℕ} → Reached bs capacity h cs s rest → rest ≢ []
       → ((x : ℕ) (more : List ℕ) → Reads rest (x ∷ []) more → ⊥) → Verdict bs capacity 2 (suc (length cs)) s

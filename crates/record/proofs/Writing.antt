@@ -69,12 +69,12 @@ append-nothing b = by (decLe (b .at) (length (b .log)))
     by (no h) = rw (content-over (b .log) (b .at) (omega arith), append-none)
 
 -- The test of the room, by what is left.
-pub room-left : (l a n : ℕ) → a ≤ l → leb n (l - a) ≡ leb (a + n) l
+pub room-left : (l a n : ℕ) → n ≤ l → leb a (l - n) ≡ leb (a + n) l
 room-left l a n h = by (decLe (a + n) l)
   where
-    by : Dec (a + n ≤ l) → leb n (l - a) ≡ leb (a + n) l
-    by (yes k) = rw (le-leb (a + n) l k) (le-leb n (l - a) (omega arith))
-    by (no k) = rw (lt-leb (a + n) l (omega arith)) (lt-leb n (l - a) (omega arith))
+    by : Dec (a + n ≤ l) → leb a (l - n) ≡ leb (a + n) l
+    by (yes k) = rw (le-leb (a + n) l k) (le-leb a (l - n) (omega arith))
+    by (no k) = rw (lt-leb (a + n) l (omega arith)) (lt-leb a (l - n) (omega arith))
 
 -- ---- one writer after another
 

@@ -34,10 +34,10 @@ pub fn is_ended() -> bool {
     }
 }
 
-// The bytes of a number: the last is below 128, or there are three. Were there as many?
-fn fill_groups(to: &mut [u8; 3]) -> bool {
+// The bytes of a number: the last is below 128, or there are as many as a number may have. Were there as many?
+fn fill_groups(to: &mut [u8; number::GROUPS]) -> bool {
     let mut n = 0;
-    while n < 3 {
+    while n < number::GROUPS {
         let ByteReading::Byte(b) = next_byte() else {
             return false;
         };
@@ -51,12 +51,12 @@ fn fill_groups(to: &mut [u8; 3]) -> bool {
 }
 
 // The number at the front.
-fn front(b: &[u8; 3]) -> Reading {
+fn front(b: &[u8; number::GROUPS]) -> Reading {
     number::read(b, 0)
 }
 
 pub fn next_number() -> Reading {
-    let mut b = [0u8; 3];
+    let mut b = [0u8; number::GROUPS];
     if fill_groups(&mut b) {
         return front(&b);
     }

@@ -6,7 +6,7 @@ use Prim.Native.Nat.{ℕ, _+_, _*_}
 
 -- The largest variable of a head, and the largest step.
 abbrev pub mostHead : ℕ
-mostHead = 1000000
+mostHead = 100000000
 
 -- The bytes of a script, and those of a log.
 abbrev pub mostBytes : ℕ
@@ -47,7 +47,11 @@ width = mostLeaves
 
 -- The counters of steps and of clauses stop here. No log reaches it: a step takes two bytes at least.
 abbrev pub stepStop : ℕ
-stepStop = 2000000
+stepStop = mostHead + mostBytes
+
+-- The next variable is no larger: each join takes one for each of its values.
+abbrev pub mostVariable : ℕ
+mostVariable = mostHead + mostJoins * width
 
 -- ---- the table of the nodes: the literals of the leaves in the order of their making, then a row for each node
 

@@ -4,7 +4,7 @@
 // ---- limits
 
 // The largest variable of a head, and the largest step.
-pub const MOST_HEAD: u32 = 1000000;
+pub const MOST_HEAD: u32 = 100000000;
 
 // The bytes of a script, and those of a log.
 pub const MOST_BYTES: usize = 65536;
@@ -33,7 +33,7 @@ pub const SOME_BYTES: usize = LEAF_BYTES * MOST_LEAVES + JOIN_BYTES * (SOME_NODE
 pub const WIDTH: usize = MOST_LEAVES;
 
 // The counters of steps and of clauses stop here. No log reaches it: a step takes two bytes at least.
-pub const STEP_STOP: u32 = 2000000;
+pub const STEP_STOP: u32 = MOST_HEAD + MOST_BYTES as u32;
 
 // ---- the table of the nodes: the literals of the leaves in the order of their making, then a row for each node
 

@@ -8,11 +8,11 @@ use Rattle.derivation.proofs.push_added_step.Tie as tie
 push-requires : tie.Need-push-requires
 push-requires c κs = search needs
 
-push-number-requires : tie.Need-push-number-requires
-push-number-requires c κs = search needs
-
 push-requires-2 : tie.Need-push-requires-2
 push-requires-2 c κs = search needs
+
+push-requires-3 : tie.Need-push-requires-3
+push-requires-3 c κs = search needs
 
 same-length : tie.Need-same-length
 same-length c = search needs
@@ -22,10 +22,10 @@ returns c =
     let third = c .before .before in
     let second = third .before .before .before .before in
     let first = second .before .before .before .before in (
-      after (first .push .ensures .0) (after (second .push-number .ensures .0) (third .push2 .ensures .0)),
-      omega (arith, first .push .ensures .1, second .push-number .ensures .1, third .push2 .ensures .1),
+      after (first .push .ensures .0) (after (second .push2 .ensures .0) (third .push3 .ensures .0)),
+      omega (arith, first .push .ensures .1, second .push2 .ensures .1, third .push3 .ensures .1),
     )
 
 pub push-added-step-spec : {M : Type 1} → statement M
 push-added-step-spec =
-    tie.close (tie.spec push-requires push-number-requires push-requires-2 same-length returns)
+    tie.close (tie.spec push-requires push-requires-2 push-requires-3 same-length returns)

@@ -14,8 +14,8 @@ push-requires-2 c κs = search needs
 push-requires-3 : tie.Need-push-requires-3
 push-requires-3 c κs = search needs
 
-push-number-requires : tie.Need-push-number-requires
-push-number-requires c κs = search needs
+push-requires-4 : tie.Need-push-requires-4
+push-requires-4 c κs = search needs
 
 same-length : tie.Need-same-length
 same-length c = search needs
@@ -26,8 +26,8 @@ returns c =
     let third = fourth .before .before .before .before in
     let second = third .before .before .before .before in
     let first = second .before .before .before .before in (
-      after (first .push .ensures .0) (after (second .push2 .ensures .0) (after (third .push3 .ensures .0) (fourth .push-number .ensures .0))),
-      omega (arith, first .push .ensures .1, second .push2 .ensures .1, third .push3 .ensures .1, fourth .push-number .ensures .1),
+      after (first .push .ensures .0) (after (second .push2 .ensures .0) (after (third .push3 .ensures .0) (fourth .push4 .ensures .0))),
+      omega (arith, first .push .ensures .1, second .push2 .ensures .1, third .push3 .ensures .1, fourth .push4 .ensures .1),
     )
 
 pub push-first-step-spec : {M : Type 1} → statement M
@@ -37,6 +37,6 @@ push-first-step-spec =
     push-requires
     push-requires-2
     push-requires-3
-    push-number-requires
+    push-requires-4
     same-length
     returns)

@@ -6,22 +6,13 @@ use Rattle.derivation.proofs.push_whole_step.Statement.{statement}
 use Rattle.derivation.proofs.push_whole_step.Tie as tie
 
 push-first-step-requires : tie.Need-push-first-step-requires
-push-first-step-requires c κs =
-    let start = c .before .before in
-    (omega arith, λ e. start .pre .1 e .this)
+push-first-step-requires c κs = search needs
 
 push-added-step-requires : tie.Need-push-added-step-requires
-push-added-step-requires c κs =
-    let first = c .before .before .before in
-    let start = first .before .before .before in
-    (omega (arith, first .push-first-step .ensures .1), λ e. start .pre .1 e .left)
+push-added-step-requires c κs = search needs
 
 push-added-step-requires-2 : tie.Need-push-added-step-requires-2
-push-added-step-requires-2 c κs =
-    let second = c .before .before .before in
-    let first = second .before .before .before .before in
-    let start = first .before .before .before in
-    (omega (arith, first .push-first-step .ensures .1, second .push-added-step .ensures .1), λ e. start .pre .1 e .right)
+push-added-step-requires-2 c κs = search needs
 
 push-requires : tie.Need-push-requires
 push-requires c κs = search needs

@@ -1,8 +1,8 @@
--- `number::push` meets its contract: one group, two, or more.
+-- `number::push` meets its contract: one group, two, three, four, or more.
 use mathlib.Core.Path.{ap}
 use native.Mathlib.Omega.{arith}
 use lib.ListN.{length}
-use Rattle.number.proofs.Laws.{encode-last, encode-two, encode-length}
+use Rattle.number.proofs.Laws.{encode-last, encode-two, encode-three, encode-four, encode-length}
 use Rattle.number.proofs.Places.{sets-written}
 use borrow.Author.Needs.{needs}
 use Rattle.number.proofs.push.Statement.{statement}
@@ -40,15 +40,43 @@ returns-2 c =
     let e = encode-two (c .before .before .before .before .before .before .before .args .x) (omega arith) (omega arith) in
     (omega (arith, ap length e), c .before .before .push-two .ensures)
 
-push-groups-requires : tie.Need-push-groups-requires
-push-groups-requires c κs =
-    omega (arith, encode-length (c .before .before .before .before .args .x) 5 (omega arith) .1 (omega arith))
+push-three-requires : tie.Need-push-three-requires
+push-three-requires c κs = search needs
+
+add-result-3 : tie.Need-add-result-3
+add-result-3 c = search needs
 
 same-length-3 : tie.Need-same-length-3
 same-length-3 c = search needs
 
 returns-3 : tie.Need-returns-3
-returns-3 c = search needs
+returns-3 c =
+    let e = encode-three (c .before .before .before .before .before .before .before .before .args .x) (omega arith) (omega arith) in
+    (omega (arith, ap length e), c .before .before .push-three .ensures)
+
+push-four-requires : tie.Need-push-four-requires
+push-four-requires c κs = search needs
+
+add-result-4 : tie.Need-add-result-4
+add-result-4 c = search needs
+
+same-length-4 : tie.Need-same-length-4
+same-length-4 c = search needs
+
+returns-4 : tie.Need-returns-4
+returns-4 c =
+    let e = encode-four (c .before .before .before .before .before .before .before .before .before .args .x) (omega arith) (omega arith) in
+    (omega (arith, ap length e), c .before .before .push-four .ensures)
+
+push-groups-requires : tie.Need-push-groups-requires
+push-groups-requires c κs =
+    omega (arith, encode-length (c .before .before .before .before .before .before .args .x) 5 (omega arith) .1 (omega arith))
+
+same-length-5 : tie.Need-same-length-5
+same-length-5 c = search needs
+
+returns-5 : tie.Need-returns-5
+returns-5 c = search needs
 
 pub push-spec : {M : Type 1} → statement M
 push-spec =
@@ -63,6 +91,14 @@ push-spec =
     add-result-2
     same-length-2
     returns-2
-    push-groups-requires
+    push-three-requires
+    add-result-3
     same-length-3
-    returns-3)
+    returns-3
+    push-four-requires
+    add-result-4
+    same-length-4
+    returns-4
+    push-groups-requires
+    same-length-5
+    returns-5)

@@ -1,14 +1,15 @@
 -- `replay::input::fill_groups` meets its contract. The loop's invariant: there is room for what was read.
 use Prim.Native.Nat.{_≤_, _-_}
+use Rattle.number.specs.Number.{groups}
 use borrow.Author.Needs.{needs}
 use Rattle.replay.proofs.input.fill_groups.Statement.{statement}
 use Rattle.replay.proofs.input.fill_groups.Tie as tie
 
 abbrev Inv-loop : tie.InvT-loop
-Inv-loop to₀ n₀ to n = (n ≤ 3)
+Inv-loop to₀ n₀ to n = (n ≤ groups)
 
 abbrev μ-loop : tie.MeasureT-loop
-μ-loop to₀ n₀ to n = 3 - n
+μ-loop to₀ n₀ to n = groups - n
 
 loop-holds : tie.Need-loop-holds Inv-loop μ-loop
 loop-holds c = search needs
