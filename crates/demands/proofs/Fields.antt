@@ -1,6 +1,6 @@
 -- Document 02, §2: numbers of four groups, and the head's limits.
 use mathlib.Core.Path.{_≡_, refl, sym, _∙_, ap}
-use mathlib.Core.Logic.{_⊎_, _≢_, ⊎-elim}
+use mathlib.Core.Logic.{_⊎_, inl, inr, _≢_, ⊎-elim}
 use mathlib.Core.List.{List, [], _∷_, _++_, flatMap, append-assoc, append-nil, List·Memᴰ, List·Memᴰ·head, List·Memᴰ·cases-cons, List·Memᴰ·not-nil, List·Memᴰ·eq-of-singleton}
 use Prim.Native.Nat.{ℕ, suc, _≤_, _<_}
 use native.Mathlib.Decide.{decLe}
@@ -55,7 +55,7 @@ reads-first {ns = ns} {rest = rest} {x = x} k = record {
 none-reads : {bs ms rest : List ℕ} {x : ℕ} → FifthGroup bs → Reads bs (x ∷ ms) rest → ⊥
 none-reads {bs} f k =
     let p = reads-cons k in
-    let e : bad ≡ number _ (p .0) = sym (readIn-over 4 bs f) ∙ p .1 in
+    let e : bad ≡ number _ (p .0) = sym (readIn-over 4 bs (λ i l. omega (arith, f i (omega arith)))) ∙ p .1 in
     let z : _≡_ {A = ℕ} 0 1 = cc in
     omega arith
 
@@ -158,8 +158,8 @@ big-fields = record {
         let c = common (v ∷ n ∷ []) (t .0 ∷ t .1 ∷ []) k (t .3) (omega arith) in
         let a : t .0 ≡ v = cc in
         let b : t .1 ≡ n = cc in
-        rw (a, b) at (t .4),
-    λ o. refused-by w (no-3 short small k o),
+        ⊎-elim (λ l. inl (omega arith)) (⊎-elim (λ l. inr (inl (omega arith))) (λ l. inr (inr (omega arith)))) (t .4),
+    λ o. refused-by w (no-3 short small k (⊎-elim (λ l. inl (omega arith)) (⊎-elim (λ l. inr (inl (omega arith))) (λ l. inr (inr (omega arith)))) o)),
   );
   fifth-in-head = λ bs rest ns capacity w short small l j f. refused-by w (no-2-head short small (λ v n r k. none-longer ns (v ∷ n ∷ []) j f (omega arith) k));
   fifth = fifth-of;

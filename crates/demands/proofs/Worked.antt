@@ -140,14 +140,14 @@ fields = big-fields .logs first 600 (ends .state .log) (ends .reports .holds) .1
 unfoldable pub past : List ℕ
 past = 2 ∷ 0x81 ∷ 0xc2 ∷ 0xd7 ∷ 0x2f ∷ []
 
-pub past-refused : RefusedBy 3 0 (played past 0)
+pub past-refused : RefusedBy 3 0 (played past 65536)
 unfolding past areBytes readIn above
 past-refused =
-    big-fields .head past [] 0 2 100000001 (bytes-tested past refl) (omega arith) (omega arith)
+    big-fields .head past [] 65536 2 100000001 (bytes-tested past refl) (omega arith) (omega arith)
     (cons-reads (bytes-tested past refl) refl (cons-reads (bytes-tested (0x81 ∷ 0xc2 ∷ 0xd7 ∷ 0x2f ∷ []) refl) refl (nil-reads []))) .1 (inr (inr (omega arith)))
 
 unfoldable pub long : List ℕ
-long = 0xff ∷ 0xff ∷ 0xff ∷ 0xff ∷ 1 ∷ []
+long = 0x80 ∷ 0x80 ∷ 0x80 ∷ 0x80 ∷ 1 ∷ []
 
 long-fifth : FifthGroup long
 unfolding long
@@ -157,19 +157,19 @@ long-fifth (suc (suc zero)) l = omega arith
 long-fifth (suc (suc (suc zero))) l = omega arith
 long-fifth (suc (suc (suc (suc i)))) l = absurd (omega arith)
 
-pub long-step : RefusedBy 2 0 (played (2 ∷ long) 0)
+pub long-step : RefusedBy 2 0 (played (2 ∷ long) 65536)
 unfolding long areBytes readIn above
 long-step =
     let w = bytes-tested (2 ∷ long) refl in
-    big-fields .fifth-in-head (2 ∷ long) long (2 ∷ []) 0 w (omega arith) (omega arith) (omega arith) (cons-reads w refl (nil-reads long)) long-fifth
+    big-fields .fifth-in-head (2 ∷ long) long (2 ∷ []) 65536 w (omega arith) (omega arith) (omega arith) (cons-reads w refl (nil-reads long)) long-fifth
 
-pub long-literal : RefusedBy 2 1 (played (2 ∷ 1 ∷ 1 ∷ long) 0)
+pub long-literal : RefusedBy 2 1 (played (2 ∷ 1 ∷ 1 ∷ long) 65536)
 unfolding long areBytes readIn above commandNumbers
 long-literal =
     let w = bytes-tested (2 ∷ 1 ∷ 1 ∷ long) refl in
     let u = bytes-tested (1 ∷ 1 ∷ long) refl in
     let here = bytes-tested (1 ∷ long) refl in
     let h : Head = record { variable = 2; step = 1 } in
-    big-fields .fifth (2 ∷ 1 ∷ 1 ∷ long) (1 ∷ long) long (1 ∷ []) 0 h [] (start h) w
+    big-fields .fifth (2 ∷ 1 ∷ 1 ∷ long) (1 ∷ long) long (1 ∷ []) 65536 h [] (start h) w
     (at-head (omega arith) (omega arith) (cons-reads w refl (cons-reads u refl (nil-reads (1 ∷ long)))) (omega arith) (omega arith) (omega arith))
     (cons-reads here refl (nil-reads long)) (Command.Leaf 0, 0, [], refl) (λ _ m. List·Memᴰ·not-nil m) long-fifth

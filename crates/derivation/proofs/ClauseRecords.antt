@@ -11,7 +11,7 @@ use Rattle.pb.specs.Rules.{Token, saturate}
 use Rattle.record.specs.Record.{clause, derivation, numbers, tokenNumbers}
 use Rattle.record.proofs.Tokens.{tokens-append}
 use Rattle.cert.specs.Definitions.{Key, Definition, nothing, axiom-of, stored, addSequence}
-use Rattle.derivation.specs.Operands.{operand, part, stepTokens, tokens, clauseNumbers, wholeNumbers}
+use Rattle.derivation.specs.Operands.{operand, part, stepTokens, tokens, tokenCode, tokenNumber, clauseNumbers, wholeNumbers}
 use Rattle.totdb.specs.Nodes.{Node}
 use Rattle.cert.specs.Requests.{Clause, definition, clauseTokens, defTokens}
 use Rattle.derivation.specs.declared.Part.{Part}
@@ -32,6 +32,18 @@ unfolding tokens
 one-token None h = ⊎-elim (λ e. omega arith) (λ e. omega arith) h
 one-token (Step n) h = refl
 one-token (Axiom l) h = refl
+
+pub token-is : (d : SemDefinition) → OneOf (1 ∷ 2 ∷ []) (tagOf the-type d) → tokenNumbers (tokens d) ≡ tokenCode d ∷ tokenNumber d ∷ []
+unfolding tokenNumbers tokens tokenCode tokenNumber
+token-is None h = absurd (⊎-elim (λ e. omega arith) (λ e. omega arith) h)
+token-is (Step n) h = refl
+token-is (Axiom l) h = refl
+
+pub no-axiom : (d : SemDefinition) → OneOf (0 ∷ 1 ∷ []) (tagOf the-type d) → tokenCode d ≡ 0
+unfolding tokenCode
+no-axiom None h = refl
+no-axiom (Step n) h = refl
+no-axiom (Axiom l) h = absurd (⊎-elim (λ e. omega arith) (λ e. omega arith) h)
 
 -- ---- the derivation of a clause's step
 

@@ -26,6 +26,17 @@ tokens None = []
 tokens (Step n) = step n ∷ []
 tokens (Axiom l) = literal l ∷ []
 
+-- The code of its token, and the number after it; 0 where there is none.
+unfoldable pub tokenCode : SemDefinition → ℕ
+tokenCode None = 0
+tokenCode (Step n) = 0
+tokenCode (Axiom l) = 1
+
+unfoldable pub tokenNumber : SemDefinition → ℕ
+tokenNumber None = 0
+tokenNumber (Step n) = n
+tokenNumber (Axiom l) = l
+
 -- The tokens of a clause's step.
 unfoldable pub stepTokens : SemDefinition → SemDefinition → SemDefinition → List Token
 unfolding tokens addSequence

@@ -9,7 +9,7 @@ ghost use Rattle.record.specs.Record.{derivation, numbers, tokenNumbers};
 ghost use Rattle.record.specs.Writing.{buffer, Puts};
 ghost use Rattle.totdb.specs.Nodes.{Node, output};
 ghost use Rattle.cert.specs.Definitions.{Key, addSequence, ifPart, onlyIfPart, real};
-ghost use Rattle.derivation.specs.Operands.{stepAfter, nextStep, part, stepTokens, tokens, clauseNumbers, clauseRoom, wholeNumbers};
+ghost use Rattle.derivation.specs.Operands.{stepAfter, nextStep, part, stepTokens, tokens, tokenCode, tokenNumber, clauseNumbers, clauseRoom, wholeNumbers};
 
 // A definition as a derivation adds it: nothing, the step that defines it, or a literal axiom.
 pub enum SemDefinition {
@@ -42,21 +42,41 @@ fn count_tokens(d: SemDefinition) -> u32
     if let SemDefinition::None = d { 0 } else { 1 }
 }
 
+// The code of a definition's token.
+fn token_code(d: SemDefinition) -> u32
+    ensures { λ r. ⌜ r ≡ tokenCode d ⌝ }
+{
+    if let SemDefinition::Axiom(_) = d {
+        1
+    } else {
+        0
+    }
+}
+
+// The number after it.
+fn token_number(d: SemDefinition) -> u32
+    ensures { λ r. ⌜ r ≡ tokenNumber d ⌝ }
+{
+    if let SemDefinition::Step(n) = d {
+        return n;
+    }
+    let SemDefinition::Axiom(l) = d else {
+        return 0;
+    };
+    l
+}
+
 // The tokens of a definition.
 fn push_definition(log: &mut [u8], at: usize, d: SemDefinition) -> usize
     requires { ⌜ at + 10 ≤ length (now log) ⌝ }
     ensures { λ r. ⌜ Puts (buffer (now (log .entry)) at) (tokenNumbers (tokens d)) (buffer (now (log .exit)) r) ⌝ }
     ensures { λ r. ⌜ r ≤ at + 10 ⌝ }
 {
-    if let SemDefinition::Step(n) = d {
-        let after_kind = record::push(log, at, 0);
-        return record::push(log, after_kind, n);
-    }
-    let SemDefinition::Axiom(l) = d else {
+    if let SemDefinition::None = d {
         return at;
-    };
-    let after_kind = record::push(log, at, 1);
-    record::push(log, after_kind, l)
+    }
+    let after_code = record::push(log, at, token_code(d));
+    record::push(log, after_code, token_number(d))
 }
 
 // The tokens of a definition and their addition to what stands before.

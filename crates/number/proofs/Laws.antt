@@ -55,20 +55,18 @@ unfolding encode
 encode-more zero h = absurd (omega arith)
 encode-more (suc n) h = rw (in-more n (suc n) h, same (suc n / 128) n (suc n / 128) (omega arith) (omega arith))
 
-pub encode-two : (x : ℕ) → 128 ≤ x → x < 16384 → encode x ≡ (x % 128 + 128) ∷ (x / 128) ∷ []
-encode-two x h k = rw (encode-more x h, encode-last (x / 128) (omega arith))
+-- by bytes, as the code writes them
 
-pub encode-three : (x : ℕ) → 16384 ≤ x → x < 2097152 → encode x ≡ (x % 128 + 128) ∷ (x / 128 % 128 + 128) ∷ (x / 16384) ∷ []
-encode-three x h k =
-    let high : x / 128 / 128 ≡ x / 16384 = omega arith in
-    rw (encode-more x (omega arith), encode-two (x / 128) (omega arith) (omega arith), high)
+pub encode-two : (x a b : ℕ) → 128 ≤ x → x < 16384 → a ≡ x % 128 + 128 → b ≡ x / 128 → encode x ≡ a ∷ b ∷ []
+encode-two x a b h k p q = rw (p, q, encode-more x h, encode-last (x / 128) (omega arith))
 
-pub encode-four : (x : ℕ) → 2097152 ≤ x → x < 268435456
-    → encode x ≡ (x % 128 + 128) ∷ (x / 128 % 128 + 128) ∷ (x / 16384 % 128 + 128) ∷ (x / 2097152) ∷ []
-encode-four x h k =
-    let middle : x / 128 / 128 ≡ x / 16384 = omega arith in
-    let high : x / 128 / 16384 ≡ x / 2097152 = omega arith in
-    rw (encode-more x (omega arith), encode-three (x / 128) (omega arith) (omega arith), middle, high)
+pub encode-three : (x a b c : ℕ) → 16384 ≤ x → x < 2097152 → a ≡ x % 128 + 128 → b ≡ x / 128 % 128 + 128 → c ≡ x / 16384 → encode x ≡ a ∷ b ∷ c ∷ []
+encode-three x a b c h k p q r = rw (p, encode-more x (omega arith), encode-two (x / 128) b c (omega arith) (omega arith) q (omega arith))
+
+pub encode-four : (x a b c d : ℕ) → 2097152 ≤ x → x < 268435456 → a ≡ x % 128 + 128 → b ≡ x / 128 % 128 + 128 → c ≡ x / 16384 % 128 + 128
+    → d ≡ x / 2097152 → encode x ≡ a ∷ b ∷ c ∷ d ∷ []
+encode-four x a b c d h k p q r s =
+    rw (p, encode-more x (omega arith), encode-three (x / 128) b c d (omega arith) (omega arith) q (omega arith) (omega arith))
 
 pub encode-some : (x : ℕ) → 0 < length (encode x)
 encode-some = by-groups (λ x. 0 < length (encode x)) (λ x h. rw (encode-last x h) (omega arith)) (λ x h _. rw (encode-more x h) (omega arith))
@@ -90,6 +88,11 @@ encode-length = by-groups Sized last more
     more x h below (suc (suc g)) p =
         let b = below (suc g) (omega arith) in
         rw (encode-more x h) (λ l. omega (arith, b .0 (omega arith)), λ l. omega (arith, b .1 (omega arith)))
+
+pub encode-groups : (x g : ℕ) → 0 < g → 128 ^ g ≤ x → x < 128 ^ suc g → length (encode x) ≡ suc g
+encode-groups x g p low high =
+    let more : ¬ (length (encode x) ≤ g) = λ l. omega (arith, encode-length x g p .0 l) in
+    omega (arith, more, encode-length x (suc g) (omega arith) .1 high)
 
 pub encode-bytes : (x : ℕ) → Bytes (encode x)
 unfolding Bytes

@@ -1,18 +1,28 @@
--- `derivation::push_definition` meets its contract: each case is one of `tokens`.
+-- `derivation::push_definition` meets its contract: nothing, or one token.
 use native.Mathlib.Omega.{arith}
 use borrow.Author.Needs.{needs}
 use Rattle.record.specs.Record.{tokenNumbers}
 use Rattle.record.proofs.Writing.{nothing, after}
 use Rattle.derivation.specs.Operands.{tokens}
-use Rattle.derivation.proofs.ClauseRecords.{is-none}
+use Rattle.derivation.proofs.ClauseRecords.{token-is}
 use Rattle.derivation.proofs.push_definition.Statement.{statement}
 use Rattle.derivation.proofs.push_definition.Tie as tie
 
-enum-known-d : tie.Need-enum-known-d
-enum-known-d c = search needs
+enum-told : tie.Need-enum-told
+enum-told c = search needs
+
+returns : tie.Need-returns
+unfolding tokenNumbers tokens
+returns c = (rw (c .enum-told .given .1) nothing, omega arith)
+
+token-code-requires : tie.Need-token-code-requires
+token-code-requires c κs = search needs
 
 push-requires : tie.Need-push-requires
 push-requires c κs = search needs
+
+token-number-requires : tie.Need-token-number-requires
+token-number-requires c κs = search needs
 
 push-requires-2 : tie.Need-push-requires-2
 push-requires-2 c κs = search needs
@@ -20,49 +30,27 @@ push-requires-2 c κs = search needs
 same-length : tie.Need-same-length
 same-length c = search needs
 
-returns : tie.Need-returns
-unfolding tokenNumbers tokens
-returns c =
-    let second = c .before .before in
-    let first = second .before .before .before .before in
-    (rw (first .before .before .before .d .given .1) (after (first .push .ensures .0) (second .push2 .ensures .0)), omega (arith, first .push .ensures .1, second .push2 .ensures .1))
-
-enum-known-d-2 : tie.Need-enum-known-d-2
-enum-known-d-2 c = search needs
-
 returns-2 : tie.Need-returns-2
-unfolding tokenNumbers tokens
 returns-2 c =
-    (rw (is-none (c .before .before .before .args .d) (c .before .match .keys2) (c .match2 .keys2)) nothing, omega arith)
-
-push-requires-3 : tie.Need-push-requires-3
-push-requires-3 c κs = search needs
-
-push-requires-4 : tie.Need-push-requires-4
-push-requires-4 c κs = search needs
-
-same-length-2 : tie.Need-same-length-2
-same-length-2 c = search needs
-
-returns-3 : tie.Need-returns-3
-unfolding tokenNumbers tokens
-returns-3 c =
     let second = c .before .before in
-    let first = second .before .before .before .before in
-    (rw (first .before .before .before .d2 .given .1) (after (first .push3 .ensures .0) (second .push4 .ensures .0)), omega (arith, first .push3 .ensures .1, second .push4 .ensures .1))
+    let number = second .before in
+    let first = number .before .before .before .before in
+    let code = first .before in
+    let match = code .before .before in (
+      rw (token-is (match .before .before .args .d) (match .match .keys2))
+          (after (rw (code .token-code .ensures) at (first .push .ensures .0)) (rw (number .token-number .ensures) at (second .push2 .ensures .0))),
+      omega (arith, first .push .ensures .1, second .push2 .ensures .1),
+    )
 
 pub push-definition-spec : {M : Type 1} → statement M
 push-definition-spec =
     tie.close
     (tie.spec
-    enum-known-d
+    enum-told
+    returns
+    token-code-requires
     push-requires
+    token-number-requires
     push-requires-2
     same-length
-    returns
-    enum-known-d-2
-    returns-2
-    push-requires-3
-    push-requires-4
-    same-length-2
-    returns-3)
+    returns-2)

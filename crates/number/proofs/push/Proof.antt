@@ -2,7 +2,7 @@
 use mathlib.Core.Path.{ap}
 use native.Mathlib.Omega.{arith}
 use lib.ListN.{length}
-use Rattle.number.proofs.Laws.{encode-last, encode-two, encode-three, encode-four, encode-length}
+use Rattle.number.proofs.Laws.{encode-last, encode-groups, encode-length}
 use Rattle.number.proofs.Places.{sets-written}
 use borrow.Author.Needs.{needs}
 use Rattle.number.proofs.push.Statement.{statement}
@@ -37,8 +37,7 @@ same-length-2 c = search needs
 
 returns-2 : tie.Need-returns-2
 returns-2 c =
-    let e = encode-two (c .before .before .before .before .before .before .before .args .x) (omega arith) (omega arith) in
-    (omega (arith, ap length e), c .before .before .push-two .ensures)
+    (omega (arith, encode-groups (c .before .before .before .before .before .before .before .args .x) 1 (omega arith) (omega arith) (omega arith)), c .before .before .push-two .ensures)
 
 push-three-requires : tie.Need-push-three-requires
 push-three-requires c κs = search needs
@@ -51,8 +50,7 @@ same-length-3 c = search needs
 
 returns-3 : tie.Need-returns-3
 returns-3 c =
-    let e = encode-three (c .before .before .before .before .before .before .before .before .args .x) (omega arith) (omega arith) in
-    (omega (arith, ap length e), c .before .before .push-three .ensures)
+    (omega (arith, encode-groups (c .before .before .before .before .before .before .before .before .args .x) 2 (omega arith) (omega arith) (omega arith)), c .before .before .push-three .ensures)
 
 push-four-requires : tie.Need-push-four-requires
 push-four-requires c κs = search needs
@@ -65,8 +63,7 @@ same-length-4 c = search needs
 
 returns-4 : tie.Need-returns-4
 returns-4 c =
-    let e = encode-four (c .before .before .before .before .before .before .before .before .before .args .x) (omega arith) (omega arith) in
-    (omega (arith, ap length e), c .before .before .push-four .ensures)
+    (omega (arith, encode-groups (c .before .before .before .before .before .before .before .before .before .args .x) 3 (omega arith) (omega arith) (omega arith)), c .before .before .push-four .ensures)
 
 push-groups-requires : tie.Need-push-groups-requires
 push-groups-requires c κs =

@@ -27,7 +27,7 @@ read-groups-requires : tie.Need-read-groups-requires
 read-groups-requires c κs = search needs
 
 returns-3 : tie.Need-returns-3
-returns-3 c = search needs
+returns-3 c = c .read-groups .ensures
 
 pub read-spec : {M : Type 1} → statement M
 read-spec =
