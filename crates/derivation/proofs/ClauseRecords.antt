@@ -11,7 +11,7 @@ use Rattle.pb.specs.Rules.{Token, saturate}
 use Rattle.record.specs.Record.{clause, derivation, numbers, tokenNumbers}
 use Rattle.record.proofs.Tokens.{tokens-append}
 use Rattle.cert.specs.Definitions.{Key, Definition, nothing, axiom-of, stored, addSequence}
-use Rattle.derivation.specs.Operands.{operand, part, stepTokens, tokens, tokenCode, tokenNumber, clauseNumbers, wholeNumbers}
+use Rattle.derivation.specs.Operands.{operand, part, stepTokens, tokens, tokenCode, tokenArgument, clauseNumbers, wholeNumbers}
 use Rattle.totdb.specs.Nodes.{Node}
 use Rattle.cert.specs.Requests.{Clause, definition, clauseTokens, defTokens}
 use Rattle.derivation.specs.declared.Part.{Part}
@@ -33,8 +33,8 @@ one-token None h = ⊎-elim (λ e. omega arith) (λ e. omega arith) h
 one-token (Step n) h = refl
 one-token (Axiom l) h = refl
 
-pub token-is : (d : SemDefinition) → OneOf (1 ∷ 2 ∷ []) (tagOf the-type d) → tokenNumbers (tokens d) ≡ tokenCode d ∷ tokenNumber d ∷ []
-unfolding tokenNumbers tokens tokenCode tokenNumber
+pub token-is : (d : SemDefinition) → OneOf (1 ∷ 2 ∷ []) (tagOf the-type d) → tokenNumbers (tokens d) ≡ tokenCode d ∷ tokenArgument d ∷ []
+unfolding tokenNumbers tokens tokenCode tokenArgument
 token-is None h = absurd (⊎-elim (λ e. omega arith) (λ e. omega arith) h)
 token-is (Step n) h = refl
 token-is (Axiom l) h = refl

@@ -32,10 +32,10 @@ tokenCode None = 0
 tokenCode (Step n) = 0
 tokenCode (Axiom l) = 1
 
-unfoldable pub tokenNumber : SemDefinition → ℕ
-tokenNumber None = 0
-tokenNumber (Step n) = n
-tokenNumber (Axiom l) = l
+unfoldable pub tokenArgument : SemDefinition → ℕ
+tokenArgument None = 0
+tokenArgument (Step n) = n
+tokenArgument (Axiom l) = l
 
 -- The tokens of a clause's step.
 unfoldable pub stepTokens : SemDefinition → SemDefinition → SemDefinition → List Token

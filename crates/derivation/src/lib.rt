@@ -9,7 +9,7 @@ ghost use Rattle.record.specs.Record.{derivation, numbers, tokenNumbers};
 ghost use Rattle.record.specs.Writing.{buffer, Puts};
 ghost use Rattle.totdb.specs.Nodes.{Node, output};
 ghost use Rattle.cert.specs.Definitions.{Key, addSequence, ifPart, onlyIfPart, real};
-ghost use Rattle.derivation.specs.Operands.{stepAfter, nextStep, part, stepTokens, tokens, tokenCode, tokenNumber, clauseNumbers, clauseRoom, wholeNumbers};
+ghost use Rattle.derivation.specs.Operands.{stepAfter, nextStep, part, stepTokens, tokens, tokenCode, tokenArgument, clauseNumbers, clauseRoom, wholeNumbers};
 
 // A definition as a derivation adds it: nothing, the step that defines it, or a literal axiom.
 pub enum SemDefinition {
@@ -53,9 +53,9 @@ fn token_code(d: SemDefinition) -> u32
     }
 }
 
-// The number after it.
-fn token_number(d: SemDefinition) -> u32
-    ensures { λ r. ⌜ r ≡ tokenNumber d ⌝ }
+// The number after the code.
+fn token_argument(d: SemDefinition) -> u32
+    ensures { λ r. ⌜ r ≡ tokenArgument d ⌝ }
 {
     if let SemDefinition::Step(n) = d {
         return n;
@@ -76,7 +76,7 @@ fn push_definition(log: &mut [u8], at: usize, d: SemDefinition) -> usize
         return at;
     }
     let after_code = record::push(log, at, token_code(d));
-    record::push(log, after_code, token_number(d))
+    record::push(log, after_code, token_argument(d))
 }
 
 // The tokens of a definition and their addition to what stands before.

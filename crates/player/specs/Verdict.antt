@@ -1,5 +1,5 @@
 -- Document 01's questions as propositions, and the number and place that a script comes to by them, apart from the player's tests.
--- The limits stand here as document 01 writes them, and not by the names of `sizes`: a limit there that is not the document's is refused
+-- The limits stand here as documents 01 and 02 write them, and not by the names of `sizes`: a limit there that is not the documents' is refused
 -- where the player's tests are proved to answer these questions.
 use mathlib.Core.Path.{_≡_}
 use mathlib.Core.Logic.{_⊎_, _≢_}

@@ -21,8 +21,8 @@ token-code-requires c κs = search needs
 push-requires : tie.Need-push-requires
 push-requires c κs = search needs
 
-token-number-requires : tie.Need-token-number-requires
-token-number-requires c κs = search needs
+token-argument-requires : tie.Need-token-argument-requires
+token-argument-requires c κs = search needs
 
 push-requires-2 : tie.Need-push-requires-2
 push-requires-2 c κs = search needs
@@ -33,12 +33,12 @@ same-length c = search needs
 returns-2 : tie.Need-returns-2
 returns-2 c =
     let second = c .before .before in
-    let number = second .before in
-    let first = number .before .before .before .before in
+    let argument = second .before in
+    let first = argument .before .before .before .before in
     let code = first .before in
     let match = code .before .before in (
       rw (token-is (match .before .before .args .d) (match .match .keys2))
-          (after (rw (code .token-code .ensures) at (first .push .ensures .0)) (rw (number .token-number .ensures) at (second .push2 .ensures .0))),
+          (after (rw (code .token-code .ensures) at (first .push .ensures .0)) (rw (argument .token-argument .ensures) at (second .push2 .ensures .0))),
       omega (arith, first .push .ensures .1, second .push2 .ensures .1),
     )
 
@@ -50,7 +50,7 @@ push-definition-spec =
     returns
     token-code-requires
     push-requires
-    token-number-requires
+    token-argument-requires
     push-requires-2
     same-length
     returns-2)
