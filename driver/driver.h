@@ -10,8 +10,8 @@
 // ---- numbers.c: byte strings, and the numbers of scripts and logs
 
 #define QUOTED(x) #x
-#define EXPANDED(x) QUOTED(x)
-#define NUMBER_RANGE "a number from 0 to " EXPANDED(TOTLOG_MOST_NUMBER) // in messages
+#define IN_WORDS(x) QUOTED(x) // a limit of totlog.h, in messages
+#define NUMBER_RANGE "a number from 0 to " IN_WORDS(TOTLOG_MOST_NUMBER)
 
 struct bytes {
     uint8_t *at;

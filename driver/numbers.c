@@ -21,6 +21,9 @@ void put_number(struct bytes *b, uint32_t number) {
     put_byte(b, (uint8_t)number);
 }
 
+enum { MOST_GROUPS = 4 };
+_Static_assert(TOTLOG_MOST_NUMBER == (1 << 7 * MOST_GROUPS) - 1, "the largest number has all groups full");
+
 static bool fault(struct reader *r, const char *why) {
     r->fault = why;
     return false;
@@ -32,7 +35,7 @@ bool read_number(struct reader *r, uint32_t *number) {
         if (r->at == r->length) return fault(r, group ? "it ends inside a number" : "it ends");
         uint8_t byte = r->bytes[r->at];
         if (group > 0 && byte == 0) return fault(r, "the number is not in shortest form");
-        if (group == 3 && byte >= 128) return fault(r, "the number has more than four groups");
+        if (group == MOST_GROUPS - 1 && byte >= 128) return fault(r, "the number has more than four groups");
         *number |= (uint32_t)(byte % 128) << (7 * group);
         r->at++;
         if (byte < 128) return true;

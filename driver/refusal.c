@@ -2,7 +2,7 @@
 #include "driver.h"
 
 static const char *const reasons[] = { // what it means that a question was answered no
-    [TOTLOG_HEAD] = "the first output variable is above 100,000,000, or the first step is not 1 to 100,000,000",
+    [TOTLOG_HEAD] = "the first output variable is above " IN_WORDS(TOTLOG_MOST_HEAD) ", or the first step is not 1 to " IN_WORDS(TOTLOG_MOST_HEAD),
     [TOTLOG_CLOSED] = "it comes after a close",
     [TOTLOG_NO_COMMAND] = "the code is not 1 to 4",
     [TOTLOG_LEAF_VARIABLE] = "the leaf's variable is not below the first output variable",

@@ -1,13 +1,13 @@
 -- Document 02, §2: numbers of four groups, and the head's limits.
-use mathlib.Core.Path.{_≡_, refl, sym, _∙_, ap}
+use mathlib.Core.Path.{_≡_, refl, _∙_, ap, subst}
 use mathlib.Core.Logic.{_⊎_, inl, inr, _≢_, ⊎-elim}
-use mathlib.Core.List.{List, [], _∷_, _++_, flatMap, append-assoc, append-nil, List·Memᴰ, List·Memᴰ·head, List·Memᴰ·cases-cons, List·Memᴰ·not-nil, List·Memᴰ·eq-of-singleton}
+use mathlib.Core.List.{List, [], _∷_, _++_, flatMap, append-assoc, append-nil, List·Memᴰ, List·Memᴰ·cases-cons, List·Memᴰ·not-nil}
 use Prim.Native.Nat.{ℕ, suc, _≤_, _<_}
 use native.Mathlib.Decide.{decLe}
 use native.Mathlib.Omega.{arith}
-use lib.ListN.{length, getD, length-append}
-use Rattle.number.specs.Number.{Bytes, encode, number, bad}
-use Rattle.number.proofs.Laws.{encode-length, read-encode, read-number, readIn-over}
+use lib.ListN.{length, length-append}
+use Rattle.number.specs.Number.{Bytes, encode}
+use Rattle.number.proofs.Laws.{encode-some, encode-length, read-encode, read-number, readIn-over}
 use Rattle.record.specs.Record.{numbers, bytes}
 use Rattle.record.proofs.Decode.{Small}
 use Rattle.cert.specs.State.{State, Head}
@@ -16,7 +16,7 @@ use Rattle.player.specs.Script.{commandNumbers}
 use Rattle.player.specs.Verdict.{Reads, Reached, Verdict, no-1, no-2-head, no-3, no-2-code, no-4, no-5, no-2, no-more, passed}
 use Rattle.player.specs.declared.Command.{Command}
 use Rattle.player.specs.declared.Command.the-variants.{Leaf, Join, Request, Close}
-use Rattle.player.proofs.Fronts.{reads-cons, reads-nil}
+use Rattle.player.proofs.Fronts.{reads-nil, reads-both, reads-split, none-stands, reads-command}
 use Rattle.player.proofs.Judged.{number-used, verdict-of, verdict-is}
 use Rattle.player.proofs.Questions.{first-holds}
 use Rattle.player.proofs.Refusal.{outcome-number, outcome-place}
@@ -32,32 +32,15 @@ cons-same p q = rw (p, q)
 common : (ns ms : List ℕ) {bs r q : List ℕ} → Reads bs ns r → Reads bs ms q → length ns ≤ length ms → (more : List ℕ) × (ms ≡ ns ++ more) × Reads r more q
 common [] ms j k l = (ms, refl, rw (reads-nil j) at k)
 common (x ∷ ns) [] j k l = absurd (omega arith)
-common (x ∷ ns) (y ∷ ms) {r = r} {q = q} j k l =
-    let a = reads-cons j in
-    let b = reads-cons k in
-    let e : number x (a .0) ≡ number y (b .0) = sym (a .1) ∙ b .1 in
-    let same : y ≡ x = cc in
-    let after : b .0 ≡ a .0 = cc in
-    let there : Reads (a .0) ms q = rw after at (b .2) in
-    let t = common ns ms (a .2) there (omega arith) in
-    (t .0, cons-same same (t .1), t .2)
-
--- the first of the numbers, alone
-reads-first : {bs ns rest : List ℕ} {x : ℕ} → Reads bs (x ∷ ns) rest → Reads bs (x ∷ []) (flatMap encode ns ++ rest)
-unfolding flatMap
-reads-first {ns = ns} {rest = rest} {x = x} k = record {
-  coded = k .coded ∙ append-assoc (encode x) (flatMap encode ns) rest ∙ rw (append-nil (encode x));
-  short = λ y m. k .short y (rw (List·Memᴰ·eq-of-singleton m) (List·Memᴰ·head refl));
-}
+common (x ∷ ns) (y ∷ ms) j k l =
+    let p = reads-both j k in
+    let t = common ns ms (p .2) (p .3) (omega arith) in
+    (t .0, cons-same (p .0) (t .1), t .2)
 
 -- ---- a fifth group
 
 none-reads : {bs ms rest : List ℕ} {x : ℕ} → FifthGroup bs → Reads bs (x ∷ ms) rest → ⊥
-none-reads {bs} f k =
-    let p = reads-cons k in
-    let e : bad ≡ number _ (p .0) = sym (readIn-over 4 bs (λ i l. omega (arith, f i (omega arith)))) ∙ p .1 in
-    let z : _≡_ {A = ℕ} 0 1 = cc in
-    omega arith
+none-reads {bs} f k = none-stands (readIn-over 4 bs (λ i l. omega (arith, f i (omega arith)))) k
 
 -- No numbers that go on there read.
 none-longer : {bs rest q : List ℕ} (ns ms : List ℕ) → Reads bs ns rest → FifthGroup rest → length ns < length ms → Reads bs ms q → ⊥
@@ -67,25 +50,14 @@ none-longer {bs} {rest} {q} ns ms j f l k = let t = common ns ms j k (omega arit
     by [] e r = omega (arith, ap length e, length-append ns [])
     by (x ∷ more) e r = none-reads f r
 
--- The numbers of a command are not the start of another's.
-prefix-free : (c d : Command) (x : ℕ) (more : List ℕ) → commandNumbers c ≡ commandNumbers d ++ (x ∷ more) → ⊥
-unfolding commandNumbers
-prefix-free (Leaf l) (Leaf m) x more e = let z : _≡_ {A = ℕ} 0 1 = cc in omega arith
-prefix-free (Leaf l) (Join p q) x more e = let z : _≡_ {A = ℕ} 0 1 = cc in omega arith
-prefix-free (Leaf l) (Request i j k) x more e = let z : _≡_ {A = ℕ} 0 1 = cc in omega arith
-prefix-free (Leaf l) Close x more e = let z : _≡_ {A = ℕ} 0 1 = cc in omega arith
-prefix-free (Join l r) (Leaf m) x more e = let z : _≡_ {A = ℕ} 0 1 = cc in omega arith
-prefix-free (Join l r) (Join p q) x more e = let z : _≡_ {A = ℕ} 0 1 = cc in omega arith
-prefix-free (Join l r) (Request i j k) x more e = let z : _≡_ {A = ℕ} 0 1 = cc in omega arith
-prefix-free (Join l r) Close x more e = let z : _≡_ {A = ℕ} 0 1 = cc in omega arith
-prefix-free (Request n v w) (Leaf m) x more e = let z : _≡_ {A = ℕ} 0 1 = cc in omega arith
-prefix-free (Request n v w) (Join p q) x more e = let z : _≡_ {A = ℕ} 0 1 = cc in omega arith
-prefix-free (Request n v w) (Request i j k) x more e = let z : _≡_ {A = ℕ} 0 1 = cc in omega arith
-prefix-free (Request n v w) Close x more e = let z : _≡_ {A = ℕ} 0 1 = cc in omega arith
-prefix-free Close (Leaf m) x more e = let z : _≡_ {A = ℕ} 0 1 = cc in omega arith
-prefix-free Close (Join p q) x more e = let z : _≡_ {A = ℕ} 0 1 = cc in omega arith
-prefix-free Close (Request i j k) x more e = let z : _≡_ {A = ℕ} 0 1 = cc in omega arith
-prefix-free Close Close x more e = let z : _≡_ {A = ℕ} 0 1 = cc in omega arith
+-- The numbers of a command are not the start of another's: what the player reads there would be either.
+prefix-free : {bs : List ℕ} (c d : Command) (x : ℕ) (more : List ℕ) → Reads bs (commandNumbers c) [] → commandNumbers c ≡ commandNumbers d ++ (x ∷ more) → ⊥
+unfolding flatMap
+prefix-free {bs} c d x more k e =
+    let one = reads-command {c = c} k in
+    let other = reads-command {c = d} (reads-split (commandNumbers d) (x ∷ more) (subst (λ (ns : List ℕ). Reads bs ns []) e k)) in
+    let same : [] ≡ flatMap encode (x ∷ more) ++ [] = cc in
+    omega (arith, ap length same, encode-some x, length-append (flatMap encode (x ∷ more)) [], length-append (encode x) (flatMap encode more))
 
 code-low : (c : Command) (x : ℕ) (ms : List ℕ) → commandNumbers c ≡ x ∷ ms → (1 ≤ x) × (x ≤ 4)
 unfolding commandNumbers
@@ -96,14 +68,14 @@ code-low Close x ms e = let z : 4 ≡ x = cc in (omega arith, omega arith)
 
 -- No command reads where its numbers go on with a fifth group.
 none-command : {here rest r : List ℕ} (ns : List ℕ) (d : Command) → Reads here ns rest → GoesOn ns → FifthGroup rest → Reads here (commandNumbers d) r → ⊥
-none-command ns d j (c, x, more, e) f k = by (decLe (length (commandNumbers d)) (length ns))
+none-command ns d j (bs, c, x, more, reads, e) f k = by (decLe (length (commandNumbers d)) (length ns))
   where
     by : Dec (length (commandNumbers d) ≤ length ns) → ⊥
     by (yes l) = let t = common (commandNumbers d) ns k j l in next (t .0) (t .1)
       where
         next : (ms : List ℕ) → ns ≡ commandNumbers d ++ ms → ⊥
-        next [] p = prefix-free c d x more (e ∙ rw (p, append-nil (commandNumbers d)))
-        next (y ∷ ms) p = prefix-free c d y (ms ++ (x ∷ more)) (e ∙ rw (p, append-assoc (commandNumbers d) (y ∷ ms) (x ∷ more)))
+        next [] p = prefix-free c d x more reads (e ∙ rw (p, append-nil (commandNumbers d)))
+        next (y ∷ ms) p = prefix-free c d y (ms ++ (x ∷ more)) reads (e ∙ rw (p, append-assoc (commandNumbers d) (y ∷ ms) (x ∷ more)))
     by (no l) = none-longer ns (commandNumbers d) j f (omega arith) k
 
 -- ---- question 3
@@ -139,9 +111,9 @@ fifth-of bs here rest [] capacity h cs s w r j g unclosed f =
     let at-code : FifthGroup here = rw (reads-nil j) f in
     refused-by w (no-2-code r (λ e. let k = rw e at (at-code 0 (omega arith)) in omega (arith, k)) (λ x more k. none-reads at-code k))
 fifth-of bs here rest (x ∷ ns) capacity h cs s w r j g unclosed f =
-    let low = code-low (g .0) x _ (g .3) in
+    let low = code-low (g .1) x _ (g .5) in
     refused-by w
-    (no-2 r (reads-first j) (unclosed (λ e. let z : _≡_ {A = ℕ} 0 1 = cc in omega arith)) (low .0) (low .1) (λ d q k. none-command (x ∷ ns) d j g f k))
+    (no-2 r (reads-split (x ∷ []) ns j) (unclosed (λ e. let z : _≡_ {A = ℕ} 0 1 = cc in omega arith)) (low .0) (low .1) (λ d q k. none-command (x ∷ ns) d j g f k))
 
 pub big-fields : BigFields
 unfolding bytes

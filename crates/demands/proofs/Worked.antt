@@ -169,7 +169,9 @@ long-literal =
     let w = bytes-tested (2 ∷ 1 ∷ 1 ∷ long) refl in
     let u = bytes-tested (1 ∷ 1 ∷ long) refl in
     let here = bytes-tested (1 ∷ long) refl in
+    let leaf = bytes-tested (1 ∷ 0 ∷ []) refl in
+    let literal = bytes-tested (0 ∷ []) refl in
     let h : Head = record { variable = 2; step = 1 } in
     big-fields .fifth (2 ∷ 1 ∷ 1 ∷ long) (1 ∷ long) long (1 ∷ []) 65536 h [] (start h) w
     (at-head (omega arith) (omega arith) (cons-reads w refl (cons-reads u refl (nil-reads (1 ∷ long)))) (omega arith) (omega arith) (omega arith))
-    (cons-reads here refl (nil-reads long)) (Command.Leaf 0, 0, [], refl) (λ _ m. List·Memᴰ·not-nil m) long-fifth
+    (cons-reads here refl (nil-reads long)) (1 ∷ 0 ∷ [], Command.Leaf 0, 0, [], cons-reads leaf refl (cons-reads literal refl (nil-reads [])), refl) (λ _ m. List·Memᴰ·not-nil m) long-fifth

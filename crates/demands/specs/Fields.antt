@@ -1,4 +1,5 @@
--- Document 02, §2, as a claim about the bytes of scripts and logs. The proof is in proofs/Fields.antt.
+-- Document 02, §2, larger numbers of scripts and logs ("big fields": a marathon's many reads), as a claim about their bytes. The proof is in
+-- proofs/Fields.antt.
 use mathlib.Core.Path.{_≡_}
 use mathlib.Core.Logic.{_↔_, _⊎_, _≢_}
 use mathlib.Core.List.{List, [], _∷_, _++_, flatMap, List·Memᴰ}
@@ -18,9 +19,9 @@ use Rattle.demands.specs.Demands.{Holds}
 abbrev pub FifthGroup : List ℕ → Type 0
 FifthGroup bs = (i : ℕ) → i < 4 → 128 ≤ getD bs i 0
 
--- A command goes on after the numbers ns.
+-- The numbers ns are the first of a command, which stands in some bytes, and not all of them.
 abbrev pub GoesOn : List ℕ → Type 0
-GoesOn ns = (c : Command) × (x : ℕ) × (more : List ℕ) × (commandNumbers c ≡ ns ++ (x ∷ more))
+GoesOn ns = (bs : List ℕ) × (c : Command) × (x : ℕ) × (more : List ℕ) × Reads bs (commandNumbers c) [] × (commandNumbers c ≡ ns ++ (x ∷ more))
 
 abbrev pub RefusedBy : ℕ → ℕ → Outcome → Type 0
 RefusedBy n p o = (o .number ≡ n) × (o .place ≡ p)

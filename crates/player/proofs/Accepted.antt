@@ -9,7 +9,7 @@ use borrow.Author.Tests.{leb-true}
 use lib.Dec.{leb}
 use lib.ListN.{length}
 use Rattle.memo.proofs.Booleans.{and-true}
-use Rattle.number.specs.Number.{groups, Bytes, encode, number, bad, readIn}
+use Rattle.number.specs.Number.{groups, Bytes, encode, readIn}
 use Rattle.memo.proofs.Lists.{flatMap-append}
 use Rattle.totdb.specs.declared.Side.{Side}
 use Rattle.cert.specs.State.{State, Head}
@@ -18,7 +18,7 @@ use Rattle.player.specs.Script.{commandNumbers, scriptBytes}
 use Rattle.player.specs.Verdict.{Reads, IsScript, Reached, at-head, one-more}
 use Rattle.player.specs.declared.Command.{Command}
 use Rattle.player.specs.declared.Command.the-variants.{Leaf, Join, Request, Close}
-use Rattle.player.proofs.Fronts.{reads-cons, reads-nil}
+use Rattle.player.proofs.Fronts.{reads-both, reads-nil, none-stands}
 use Rattle.player.proofs.Judged.{accepted-whole, verdict-of}
 
 -- ---- numbers
@@ -32,19 +32,13 @@ reads-join {bs} {ns} {mid} {ms} {rest} j k = record {
 
 nothing-reads : {ns rest : List ℕ} {x : ℕ} → Reads [] (x ∷ ns) rest → ⊥
 unfolding readIn
-nothing-reads k = let p = reads-cons k in let e : bad ≡ number _ (p .0) = p .1 in let z : _≡_ {A = ℕ} 0 1 = cc in omega arith
+nothing-reads k = none-stands refl k
 
 reads-same : (ns ms : List ℕ) {bs : List ℕ} → Reads bs ns [] → Reads bs ms [] → ns ≡ ms
 reads-same [] [] j k = refl
 reads-same [] (y ∷ ms) j k = absurd (nothing-reads (rw (reads-nil j) at k))
 reads-same (x ∷ ns) [] j k = absurd (nothing-reads (rw (reads-nil k) at j))
-reads-same (x ∷ ns) (y ∷ ms) j k =
-    let p = reads-cons j in
-    let q = reads-cons k in
-    let e : number x (p .0) ≡ number y (q .0) = sym (p .1) ∙ q .1 in
-    let same : x ≡ y = cc in
-    let after : p .0 ≡ q .0 = cc in
-    rw (same, reads-same ns ms (p .2) (rw after (q .2)))
+reads-same (x ∷ ns) (y ∷ ms) j k = let p = reads-both j k in rw (p .0, reads-same ns ms (p .2) (p .3))
 
 -- ---- commands
 

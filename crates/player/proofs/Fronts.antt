@@ -1,14 +1,15 @@
 -- What the player reads is what stands at the front: numbers, commands, and which question of reading is answered no.
-use mathlib.Core.Path.{_≡_, refl, sym, _∙_, ap}
+use mathlib.Core.Path.{_≡_, refl, sym, _∙_, ap, subst}
 use mathlib.Core.Bool.{Bool, true, false}
 use mathlib.Core.Logic.{_⊎_, inl, inr, ⊎-elim}
-use mathlib.Core.List.{List, [], _∷_, _++_, flatMap, append-assoc, List·Memᴰ, List·Memᴰ·head, List·Memᴰ·tail, List·Memᴰ·cases-cons, List·Memᴰ·not-nil}
+use mathlib.Core.List.{List, [], _∷_, _++_, flatMap, append-assoc, List·Memᴰ, List·Memᴰ·head, List·Memᴰ·tail, List·Memᴰ·cases-cons, List·Memᴰ·not-nil, Memᴰ·append-left}
 use Prim.Native.Nat.{ℕ, zero, suc, _+_, _≤_, _<_}
 use native.Mathlib.Decide.{decLe}
 use native.Mathlib.Omega.{arith}
 use lib.ListN.{length, length-append}
 use Rattle.number.specs.Number.{groups, Bytes, encode, Front, number, bad, readIn, read}
 use Rattle.number.proofs.Laws.{encode-length, read-encode, read-number}
+use Rattle.memo.proofs.Lists.{flatMap-append}
 use Rattle.record.proofs.Decode.{Small}
 use Rattle.player.specs.Script.{Next, command, refuse, end, get, arguments, readCommand, commandNumbers}
 use Rattle.player.specs.Verdict.{Reads}
@@ -54,6 +55,27 @@ reads-nil k = k .coded
 pub nil-reads : (bs : List ℕ) → Reads bs [] bs
 unfolding flatMap
 nil-reads bs = record { coded = refl; short = λ x m. absurd (List·Memᴰ·not-nil m) }
+
+-- Two lists of numbers that stand at one place begin with one number.
+pub reads-both : {bs ns ms r q : List ℕ} {x y : ℕ} → Reads bs (x ∷ ns) r → Reads bs (y ∷ ms) q → (y ≡ x) × (rest : List ℕ) × Reads rest ns r × Reads rest ms q
+reads-both {ms = ms} {q = q} {x = x} {y = y} j k =
+    let a = reads-cons j in
+    let b = reads-cons k in
+    let e : number x (a .0) ≡ number y (b .0) = sym (a .1) ∙ b .1 in
+    let same : y ≡ x = cc in
+    let after : b .0 ≡ a .0 = cc in
+    (same, a .0, a .2, subst (λ (u : List ℕ). Reads u ms q) after (b .2))
+
+-- Some of the numbers, with the others after them.
+pub reads-split : (ns ms : List ℕ) {bs rest : List ℕ} → Reads bs (ns ++ ms) rest → Reads bs ns (flatMap encode ms ++ rest)
+reads-split ns ms {rest = rest} k = record {
+  coded = k .coded ∙ ap (λ (u : List ℕ). u ++ rest) (flatMap-append encode ns ms) ∙ append-assoc (flatMap encode ns) (flatMap encode ms) rest;
+  short = λ x m. k .short x (Memᴰ·append-left ms m);
+}
+
+-- Where no number reads none stands.
+pub none-stands : {bs ns rest : List ℕ} {x : ℕ} → read bs ≡ bad → Reads bs (x ∷ ns) rest → ⊥
+none-stands e k = let p = reads-cons k in let q : bad ≡ number _ (p .0) = sym e ∙ p .1 in let z : _≡_ {A = ℕ} 0 1 = cc in omega arith
 
 -- One number.
 pub reads-one : {bs rest : List ℕ} {x : ℕ} → Reads bs (x ∷ []) rest → read bs ≡ number x rest
@@ -149,7 +171,7 @@ next-stands closed (b ∷ bs) w = by (read (b ∷ bs)) refl
     by bad e =
         rw (code-bad closed (b ∷ bs) (omega arith) e)
         (code-unread (λ q. let z : _≡_ {A = ℕ} 0 1 = cc in omega arith)
-        (λ x r k. let j = reads-one k in let z : _≡_ {A = ℕ} 0 1 = cc in omega arith))
+        (λ x r k. none-stands e k))
     by (number x r) e = code closed
       where
         last : (t : Next) → readCommand false (b ∷ bs) ≡ t → 1 ≤ x → x ≤ 4 → Given t → Stands false (b ∷ bs) t

@@ -34,7 +34,7 @@ pub fn is_ended() -> bool {
     }
 }
 
-// The bytes of a number: the last is below 128, or there are as many as a number may have. Were there as many?
+// The bytes of a number, up to the first below 128 and no more than a number may have. Does the input hold them?
 fn fill_groups(to: &mut [u8; number::GROUPS]) -> bool {
     let mut n = 0;
     while n < number::GROUPS {
