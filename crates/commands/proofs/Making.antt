@@ -7,7 +7,7 @@ use native.Mathlib.Omega.{arith}
 use lib.ListN.{length, length-append}
 use Rattle.pb.specs.Sum.{variable}
 use Rattle.sizes.specs.Sizes.{mostLeaves, mostVariable}
-use Rattle.totdb.specs.Nodes.{Node, leaf, joined, nodeAt, leaves, len, known, leafCount, sideLen, sideLeaves}
+use Rattle.totdb.specs.Nodes.{Node, leaf, joined, nodeAt, leaves, len, known, leafCount, plainForm, sideLen, sideLeaves}
 use Rattle.totdb.specs.declared.Side.{Side}
 use Rattle.cert.specs.State.{State, Head}
 use Rattle.cert.proofs.Tables.{at-last, length-snoc}
@@ -18,7 +18,7 @@ use Rattle.player.specs.Formed.{Formed}
 use Rattle.player.specs.Player.{firstNo, questions, act, make, accepted}
 use Rattle.player.specs.declared.Command.{Command}
 use Rattle.player.proofs.Formed.{formed-act, head-low}
-use Rattle.player.proofs.Sound.{JoinFits, join-fits, sideLeaves-length}
+use Rattle.player.proofs.Sound.{JoinFits, join-fits, sideLeaves-length, plain-sideLen}
 use Rattle.player.proofs.Tree.{few-nodes, few-variables, leafCount-leaf, leafCount-join, treed-act}
 use Rattle.player.proofs.Refusal.{play-goes}
 use Rattle.commands.specs.Standing.{Standing, Room, Played, went}
@@ -98,7 +98,7 @@ module _ {h : Head} {c : ℕ} {ns store log : List ℕ} {z : Totals} {s : State}
   join-made l r asked room ns′ table e a b d f p q v =
       let x : Node = joined (s .nodes) (z .variable) l r in
       let same : leafCount (s .nodes ++ (joined (s .nodes) (z .variable) l r ∷ [])) ≡ leafCount (s .nodes) =
-      unfold joined in leafCount-join (s .nodes) (sideLeaves (s .nodes) l ++ sideLeaves (s .nodes) r) (z .variable) l r in
+      unfold joined in leafCount-join (s .nodes) _ (z .variable) _ _ in
       let is : act (Command.Join l r) s ≡ make x (len x) s =
       unfold act in ap (λ (o : ℕ). make (joined (s .nodes) o l r) (len (joined (s .nodes) o l r)) s) (sym (st .variable)) in
       makes (Command.Join l r) asked x (len x) is room ns′ table e a b d f
@@ -108,12 +108,14 @@ module _ {h : Head} {c : ℕ} {ns store log : List ℕ} {z : Totals} {s : State}
 
   -- Two sides that pass their questions may be joined, and their join has 64 outputs at most.
   module _ (l r : Side) (asked : firstNo (questions h (s .nodes) (Command.Join l r)) ≡ 0) where
-    fit : JoinFits (s .nodes) l r
+    fit : JoinFits (s .nodes) (plainForm (s .nodes) l) (plainForm (s .nodes) r)
     fit = join-fits h (s .nodes) l r asked
 
     long : (o : ℕ) → len (joined (s .nodes) o l r) ≡ sideLen (s .nodes) l + sideLen (s .nodes) r
     unfolding len leaves joined
-    long o = length-append (sideLeaves (s .nodes) l) (sideLeaves (s .nodes) r) ∙ rw (sideLeaves-length (s .nodes) l, sideLeaves-length (s .nodes) r)
+    long o =
+        length-append (sideLeaves (s .nodes) (plainForm (s .nodes) l)) (sideLeaves (s .nodes) (plainForm (s .nodes) r))
+        ∙ rw (sideLeaves-length (s .nodes) (plainForm (s .nodes) l), sideLeaves-length (s .nodes) (plainForm (s .nodes) r), plain-sideLen (s .nodes) l, plain-sideLen (s .nodes) r)
 
     short : sideLen (s .nodes) l + sideLen (s .nodes) r ≤ 64
     short =
@@ -143,8 +145,8 @@ module _ {h : Head} {c : ℕ} {ns store log : List ℕ} {z : Totals} {s : State}
       right-free = fit .right-free;
       left-some = fit .left-some;
       right-some = fit .right-some;
-      left-in = fit .left-in;
-      right-in = fit .right-in;
+      left-in = rw (plain-sideLen (s .nodes) l) at (fit .left-in);
+      right-in = rw (plain-sideLen (s .nodes) r) at (fit .right-in);
       short = short;
       low = low-variable;
     }

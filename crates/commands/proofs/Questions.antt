@@ -101,15 +101,8 @@ module _ (s : Side) (n : ℕ) where
     pub fits-limit : n - s .offset < s .limit → fitsOver s n ≡ false
     fits-limit p = rw (lt-ltb (s .offset) n below, lt-leb (s .limit) (n - s .offset) p)
 
-    module _ (within : s .limit ≤ n - s .offset) where
-      pub fits-shifted : ¬ (s .offset ≡ 0) → fitsOver s n ≡ true
-      fits-shifted p = rw (lt-ltb (s .offset) n below, le-leb (s .limit) (n - s .offset) within, ne-eqb (s .offset) 0 p)
-
-      pub fits-whole : s .offset ≡ 0 → s .limit ≡ n → fitsOver s n ≡ false
-      fits-whole p q = rw (lt-ltb (s .offset) n below, le-leb (s .limit) (n - s .offset) within, eq-eqb (s .offset) 0 p, eq-eqb (s .limit) n q)
-
-      pub fits-part : s .offset ≡ 0 → ¬ (s .limit ≡ n) → fitsOver s n ≡ true
-      fits-part p q = rw (lt-ltb (s .offset) n below, le-leb (s .limit) (n - s .offset) within, eq-eqb (s .offset) 0 p, ne-eqb (s .limit) n q)
+    pub fits-within : s .limit ≤ n - s .offset → fitsOver s n ≡ true
+    fits-within p = rw (lt-ltb (s .offset) n below, le-leb (s .limit) (n - s .offset) p)
 
 -- ---- a side of the nodes
 

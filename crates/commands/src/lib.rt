@@ -86,12 +86,6 @@ fn fits(s: Side, node_len: usize) -> bool
     if node_len - s.offset < s.limit {
         return false;
     }
-    if s.offset != 0 {
-        return true;
-    }
-    if s.limit == node_len {
-        return false;
-    }
     true
 }
 

@@ -8,8 +8,9 @@ use lib.Dec.{eqb}
 use lib.ListN.{length, set, take, replicate, length-set, length-append, length-take, length-drop, length-replicate}
 use lib.Seq.{paste, length-paste, take-set-le, take-suc-set, take-append-seam, set-getD}
 use Rattle.sizes.specs.Sizes.{mostLeaves, width, row, rowAt, takenColumn, takenAt}
-use Rattle.totdb.specs.Nodes.{Node, leaf, join, nodeAt, len, leaves, output, sideLen, sideLeaves, joined, leafCount, isOver, taken}
+use Rattle.totdb.specs.Nodes.{Node, leaf, join, nodeAt, len, leaves, output, sideLen, sideLeaves, joinOf, plainForm, leafCount, isOver, taken}
 use Rattle.totdb.specs.declared.Side.{Side}
+use Rattle.totdb.proofs.Sides.{plain-length}
 use Rattle.cert.specs.Sized.{Fit}
 use Rattle.cert.proofs.Rules.{sideLen-more}
 use Rattle.cert.proofs.Tables.{at-last, length-snoc, side-some, taken-snoc}
@@ -122,11 +123,34 @@ module _ {ns : List ℕ} {t : List Node} {n k l : ℕ} (j : Leafable ns t n k l)
 -- ---- a join
 
 module _ {ns : List ℕ} {t : List Node} {n v : ℕ} {l r : Side} (j : Joinable ns t n v l r) where
+  -- So may their plain forms.
+  pub plain-joinable : Joinable ns t n v (plainForm t l) (plainForm t r)
+  unfolding sideLen
+  plain-joinable =
+      let p = plain-length l (len (nodeAt t (l .node))) in
+      let q = plain-length r (len (nodeAt t (r .node))) in
+      record {
+        table = j .table;
+        next = j .next;
+        room = j .room;
+        left = j .left;
+        right = j .right;
+        apart = j .apart;
+        left-free = j .left-free;
+        right-free = j .right-free;
+        left-some = j .left-some;
+        right-some = j .right-some;
+        left-in = omega (arith, p, j .left-in);
+        right-in = omega (arith, q, j .right-in);
+        short = omega (arith, p, q, j .short);
+        low = j .low;
+      }
+
   abbrev both : List ℕ
   both = sideLeaves t l ++ sideLeaves t r
 
   abbrev with-join : List Node
-  with-join = t ++ (join both v l r ∷ [])
+  with-join = t ++ (joinOf t v l r ∷ [])
 
   abbrev new-row : List ℕ
   new-row = joinNumbers n v l (sideLeaves t l) r (sideLeaves t r)
@@ -145,8 +169,8 @@ module _ {ns : List ℕ} {t : List Node} {n v : ℕ} {l r : Side} (j : Joinable 
     pub both-fit : p + q ≤ width
     both-fit = omega (arith, j .short)
 
-    pub length-join : p + q ≡ len (joined t v l r)
-    unfolding joined len leaves
+    pub length-join : p + q ≡ len (joinOf t v l r)
+    unfolding len leaves
     length-join = omega (arith, both-long)
 
   bounded-join : Bounded with-join
@@ -208,8 +232,7 @@ module _ {ns : List ℕ} {t : List Node} {n v : ℕ} {l r : Side} (j : Joinable 
       (omega (arith, side-count t l, side-count t r, j .short))
 
   pub table-join : rowAt (n + 1) ≤ length ns
-      → Table (set (set (paste ns (rowAt n) new-row row) (takenAt (l .node)) 1) (takenAt (r .node)) 1) (t ++ (joined t v l r ∷ []))
-  unfolding joined
+      → Table (set (set (paste ns (rowAt n) new-row row) (takenAt (l .node)) 1) (takenAt (r .node)) 1) with-join
   table-join room =
       let next : length t ≡ n = j .next in
       let inside : rowAt n + row ≤ length ns = omega arith in

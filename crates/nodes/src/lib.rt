@@ -6,7 +6,7 @@ ghost use Prim.Native.Nat.{_+_, _≤_, _<_};
 ghost use lib.ListN.{length, set};
 ghost use lib.Seq.{paste, sets};
 ghost use Rattle.sizes.specs.Sizes.{row, rowAt, takenAt, width, mostNodes, mostVariable};
-ghost use Rattle.totdb.specs.Nodes.{Node, leaf, nodeAt, len, joined, part, plainOr, sideLen, sideLeaves, leafCount};
+ghost use Rattle.totdb.specs.Nodes.{Node, leaf, nodeAt, len, joinOf, joined, part, plainOr, plainForm, sideLen, sideLeaves, leafCount};
 ghost use Rattle.rows.specs.Rows.{Table};
 ghost use Rattle.nodes.specs.Added.{Leafable, Joinable, Sided, Small, leafNumbers, sideNumbers, joinNumbers};
 
@@ -166,12 +166,13 @@ fn mark(nodes: &mut [u32], node: usize)
     nodes[row + sizes::TAKEN] = 1;
 }
 
-// A join of two sides, as node n, its outputs on the variables from `variable` up. Its length.
-pub fn add_join(nodes: &mut [u32], n: usize, variable: u32, l: Side, r: Side) -> usize
+// A join of two sides as they are, as node n, its outputs on the variables from `variable` up. Its
+// length.
+fn put_join(nodes: &mut [u32], n: usize, variable: u32, l: Side, r: Side) -> usize
     requires { ⌜ rowAt (n + 1) ≤ length (now nodes) ⌝ }
     requires { ⌜ ((t : List Node) × Joinable (now nodes) t n variable l r) ⌝ }
     ensures { λ e. ⌜ ((t : List Node) → Joinable (now (nodes .entry)) t n variable l r
-        → (e ≡ len (joined t variable l r)) × Table (now (nodes .exit)) (t ++ (joined t variable l r ∷ []))) ⌝ }
+        → (e ≡ len (joinOf t variable l r)) × Table (now (nodes .exit)) (t ++ (joinOf t variable l r ∷ []))) ⌝ }
 {
     let l_len = side_len(nodes, l);
     let r_len = side_len(nodes, r);
@@ -180,4 +181,24 @@ pub fn add_join(nodes: &mut [u32], n: usize, variable: u32, l: Side, r: Side) ->
     mark(nodes, l.node);
     mark(nodes, r.node);
     l_len + r_len
+}
+
+// A side in its plain form.
+fn plain_form(nodes: &[u32], s: Side) -> Side
+    requires { ⌜ ((t : List Node) × Table (now nodes) t × (s .node < length t)) ⌝ }
+    ensures { λ r. ⌜ ((t : List Node) → Table (now (nodes .entry)) t → s .node < length t → r ≡ plainForm t s) ⌝ }
+{
+    s.plain_form(len(nodes, s.node))
+}
+
+// A join of two sides, each in its plain form from here on. Its length.
+pub fn add_join(nodes: &mut [u32], n: usize, variable: u32, l: Side, r: Side) -> usize
+    requires { ⌜ rowAt (n + 1) ≤ length (now nodes) ⌝ }
+    requires { ⌜ ((t : List Node) × Joinable (now nodes) t n variable l r) ⌝ }
+    ensures { λ e. ⌜ ((t : List Node) → Joinable (now (nodes .entry)) t n variable l r
+        → (e ≡ len (joined t variable l r)) × Table (now (nodes .exit)) (t ++ (joined t variable l r ∷ []))) ⌝ }
+{
+    let left = plain_form(nodes, l);
+    let right = plain_form(nodes, r);
+    put_join(nodes, n, variable, left, right)
 }

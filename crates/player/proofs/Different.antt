@@ -223,7 +223,7 @@ distinct-act h (Command.Leaf l) s q p d = by (known (s .nodes) l) refl
     by : (b : Bool) → known (s .nodes) l ≡ b → Distinct ((elim b as (λ _. State) [ true ↦ s | false ↦ make (leaf l) 0 s ]) .nodes)
     by true e = d
     by false e = unfold make in distinct-leaf h s p d l (leaf-low h (s .nodes) l q) e (leaf-apart h (s .nodes) l q e)
-distinct-act h (Command.Join l r) s q p d = unfold make joined in distinct-join h s p d l r (join-fits h (s .nodes) l r q)
+distinct-act h (Command.Join l r) s q p d = unfold make joined in distinct-join h s p d _ _ (join-fits h (s .nodes) l r q)
 distinct-act h (Command.Request n v e) s q p d =
     let t = s .nodes in
     distinct-same t _ (serve-nodes t (sized-ok t (p .sized)) (requests n v e) (requests-asked t n v e (request-fits h t n v e q)) s .0) d

@@ -25,7 +25,7 @@ use Rattle.player.specs.Formed.{Sound}
 use Rattle.player.specs.Passes.{AllPassed, all-done, all-more, Passes}
 use Rattle.player.specs.Player.{firstNo, ask, sideFits, questions, make, delete, act, plays, Outcome, outcome, played}
 use Rattle.player.specs.Script.{Commands}
-use Rattle.player.specs.Verdict.{OffNode, offset-high, limit-high, covering}
+use Rattle.player.specs.Verdict.{OffNode, offset-high, limit-high}
 use Rattle.player.specs.declared.Command.{Command}
 use Rattle.player.proofs.Counts.{all-keep}
 use Rattle.player.proofs.Questions.{answered-no, answered-yes, side-answer}
@@ -63,7 +63,6 @@ pub record Free (t : List Node) (l r : Side) : Type 0 where
 pub record Inside (t : List Node) (s : Side) : Type 0 where
   pub below : s .offset < len (nodeAt t (s .node))
   pub within : s .offset + s .limit ≤ len (nodeAt t (s .node))
-  pub not-whole : s .offset ≡ 0 → s .limit ≢ len (nodeAt t (s .node))
 
 inside : (t : List Node) (s : Side) → Inside t s → sideFits t s ≡ true
 inside t s i = answered-yes (side-answer t s) by
@@ -71,7 +70,6 @@ inside t s i = answered-yes (side-answer t s) by
     by : OffNode t s → ⊥
     by (offset-high l) = omega (arith, i .below)
     by (limit-high l) = omega (arith, i .within)
-    by (covering e f) = i .not-whole e f
 
 outside : (t : List Node) (s : Side) → OffNode t s → sideFits t s ≡ false
 outside t s o = answered-no (side-answer t s) o
@@ -102,14 +100,14 @@ module _ (h : Head) (t : List Node) (l r : Side) (free : Free t l r) where
 
 -- A plain side lies in every node that has an output.
 pub plain-inside : (t : List Node) (s : Side) → s .offset ≡ 0 → s .limit ≡ 0 → 1 ≤ len (nodeAt t (s .node)) → Inside t s
-plain-inside t s e f h = record { below = omega arith; within = omega arith; not-whole = λ _ k. omega arith }
+plain-inside t s e f h = record { below = omega arith; within = omega arith }
 
 -- Beside a plain side and with no limit, the length - 1 is the last offset that passes.
 module _ (h : Head) (t : List Node) (l r : Side) (free : Free t l r) (unlimited : l .limit ≡ 0)
     (r-offset : r .offset ≡ 0) (r-limit : r .limit ≡ 0) (r-some : 1 ≤ len (nodeAt t (r .node))) where
   pub offset-last : l .offset + 1 ≡ len (nodeAt t (l .node)) → firstNo (questions h t (Command.Join l r)) ≡ 0
   offset-last e =
-      sides-inside h t l r free (record { below = omega arith; within = omega arith; not-whole = λ _ k. omega arith })
+      sides-inside h t l r free (record { below = omega arith; within = omega arith })
       (plain-inside t r r-offset r-limit r-some)
 
   pub offset-length : l .offset ≡ len (nodeAt t (l .node)) → firstNo (questions h t (Command.Join l r)) ≡ 10
@@ -276,15 +274,21 @@ met-inside : firstNo (questions ten three (Command.Join (side 5 1 2) (side 3 0 0
 unfolding three len nodeAt leaves side
 met-inside =
     sides-inside ten three (side 5 1 2) (side 3 0 0) (free-three 1 2 0 0)
-    (record { below = omega arith; within = omega arith; not-whole = λ e _. omega arith }) (plain-inside three (side 3 0 0) refl refl (omega arith))
+    (record { below = omega arith; within = omega arith }) (plain-inside three (side 3 0 0) refl refl (omega arith))
 
 met-left : firstNo (questions ten three (Command.Join (side 5 1 3) (side 3 0 0))) ≡ 10
 unfolding three len nodeAt leaves side
 met-left = left-outside ten three (side 5 1 3) (side 3 0 0) (free-three 1 3 0 0) (limit-high (omega arith))
 
-met-right : firstNo (questions ten three (Command.Join (side 5 0 0) (side 3 0 1))) ≡ 10
+met-right : firstNo (questions ten three (Command.Join (side 5 0 0) (side 3 0 2))) ≡ 10
 unfolding three len nodeAt leaves side
-met-right = right-outside ten three (side 5 0 0) (side 3 0 1) (free-three 0 0 0 1) (covering refl refl)
+met-right = right-outside ten three (side 5 0 0) (side 3 0 2) (free-three 0 0 0 2) (limit-high (omega arith))
+
+met-whole : firstNo (questions ten three (Command.Join (side 5 0 3) (side 3 0 1))) ≡ 0
+unfolding three len nodeAt leaves side
+met-whole =
+    sides-inside ten three (side 5 0 3) (side 3 0 1) (free-three 0 3 0 1) (record { below = omega arith; within = omega arith })
+    (record { below = omega arith; within = omega arith })
 
 met-few : firstNo (questions ten three (Command.Leaf 8)) ≡ 0
 unfolding three variable neg known leafCount ten

@@ -27,7 +27,7 @@ use Rattle.player.specs.Formed.{Sound}
 use Rattle.player.specs.Passes.{AllPassed}
 use Rattle.player.specs.declared.Command.{Command}
 use Rattle.player.proofs.Counts.{all-counted}
-use Rattle.player.proofs.Runs.{asked, asked-from, asked-has, Ran, all-ran, build-makes}
+use Rattle.player.proofs.Runs.{asked, asked-from, asked-has, Ran, all-built, all-ran, build-makes}
 use Rattle.player.proofs.Sound.{sound-start}
 
 start-nodes : (h : Head) → start h .nodes ≡ []
@@ -50,7 +50,7 @@ module _ (h : Head) (capacity : ℕ) (cs : List Command) (u : State) (all : AllP
   sound = all-ran all (sound-start h) .1
 
   pub nodes-table : u .nodes ≡ table h cs
-  nodes-table = ran .built ∙ start-built h cs
+  nodes-table = all-built all (sound-start h) ∙ start-built h cs
 
   nodes-made : made (ran .commands) ≡ table h cs
   nodes-made = sym (ran .nodes ∙ rw (start-nodes h)) ∙ nodes-table

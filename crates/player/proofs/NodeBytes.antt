@@ -89,7 +89,7 @@ module _ (h : Head) (s : State) (sound : Sound h s) (n m : ℕ) (t : Took n (s .
   acts (Command.Join l r) later asked =
       let x : Node = joined (s .nodes) (s .next-variable) l r in
       let e : leafCount (s .nodes ++ (joined (s .nodes) (s .next-variable) l r ∷ [])) ≡ leafCount (s .nodes) =
-      unfold joined in leafCount-join (s .nodes) (sideLeaves (s .nodes) l ++ sideLeaves (s .nodes) r) (s .next-variable) l r in
+      unfold joined in leafCount-join (s .nodes) _ (s .next-variable) _ _ in
       unfold make in record {
         joins = t .joins + 1;
         counted = omega (arith, t .counted, length-snoc (s .nodes) x, e);

@@ -3,22 +3,25 @@ use mathlib.Core.Path.{_≡_, refl, sym, _∙_, ap, subst}
 use mathlib.Core.Bool.{Bool, true, false, _||_}
 use mathlib.Core.List.{List, [], _∷_, _++_, map, map-append, append-nil, append-assoc}
 use Prim.Native.Nat.{ℕ, zero, suc, _+_, _-_, _*_, _<_}
+use native.Mathlib.Decide.{ℕ-discrete}
 use native.Mathlib.Omega.{arith}
 use borrow.Author.Tests.{eqb-true}
 use lib.Dec.{eqb}
-use lib.ListN.{length}
+use lib.ListN.{length, length-append}
 use lib.Seq.{append-snoc}
 use Rattle.pb.specs.Sum.{variable}
-use Rattle.totdb.specs.Nodes.{Node, leaf, join, nodeAt, leaves, len, output, outputs, range, limited, plainOr, known, leafOf, joined, sideLen, sideOutputs, sideLeaves}
+use Rattle.totdb.specs.Nodes.{Node, leaf, join, nodeAt, leaves, len, output, outputs, range, limited, plainOr, known, leafOf, plainOver, plainForm, joined, sideLen, sideOutputs, sideLeaves}
 use Rattle.totdb.specs.declared.Side.{Side}
+use Rattle.totdb.proofs.Sides.{whole-form, other-form}
 use Rattle.cert.specs.State.{State, start, Head}
 use Rattle.cert.specs.Sized.{Fit, Sized, Numbered}
 use Rattle.player.specs.Formed.{Sound}
 use Rattle.cert.proofs.Lookups.{window-or}
-use Rattle.cert.proofs.Tables.{any-snoc}
+use Rattle.cert.proofs.Rules.{at-more}
+use Rattle.cert.proofs.Tables.{any-snoc, length-snoc, at-last}
 use Rattle.cert.proofs.WindowDerivations.{range-append}
-use Rattle.player.specs.Accepted.{without, makers, makerOf, joinOutputs, joinLengths, SideIs, plain-side, to-the-end, to-the-limit, NodesOf}
-use Rattle.player.specs.Called.{build, table}
+use Rattle.player.specs.Accepted.{without, makers, makerOf, joinOutputs, joinLengths, SideIs, plain-side, to-the-end, to-the-limit, JoinsAs, as-plain, as-it-is, NodesOf}
+use Rattle.player.specs.Called.{build, table, plainCommand}
 use Rattle.player.specs.Passes.{AllPassed}
 use Rattle.player.specs.declared.Command.{Command}
 use Rattle.player.proofs.Matching.{nodes-table}
@@ -98,37 +101,86 @@ known-join : (t : List Node) (ls : List ℕ) (o : ℕ) (l r : Side) (m : ℕ) �
 unfolding known leafOf
 known-join t ls o l r m = any-snoc (leafOf m) t (join ls o l r) ∙ or-swap (known t m) false
 
--- Each command of a list makes its node, or none.
-build-makers : (cs : List Command) (t : List Node) (o : ℕ)
-    → map {B = Command} makerOf (build cs t o) ≡ map {B = Command} makerOf t ++ unseen t (makers cs)
-unfolding makers unseen build makerOf joined
-build-makers [] t o = sym (append-nil (map {B = Command} makerOf t))
-build-makers (Command.Leaf l ∷ cs) t o = by (known t l) refl (build-makers cs t o) (build-makers cs (t ++ (leaf l ∷ [])) o)
+-- Nodes are added at the end.
+build-grown : (cs : List Command) (t : List Node) (o : ℕ) → (u : List Node) × (build cs t o ≡ t ++ u)
+unfolding build
+build-grown [] t o = ([], sym (append-nil t))
+build-grown (Command.Leaf l ∷ cs) t o = by (known t l) refl (build-grown cs t o) (build-grown cs (t ++ (leaf l ∷ [])) o)
   where
-    by : (b : Bool) → known t l ≡ b → map {B = Command} makerOf (build cs t o) ≡ map {B = Command} makerOf t ++ unseen t (makers cs)
-        → map {B = Command} makerOf (build cs (t ++ (leaf l ∷ [])) o)
-        ≡ map {B = Command} makerOf (t ++ (leaf l ∷ [])) ++ unseen (t ++ (leaf l ∷ [])) (makers cs)
-        → map {B = Command} makerOf (build (Command.Leaf l ∷ cs) t o)
-        ≡ map {B = Command} makerOf t ++ pickOne (known t l) l (unseen t (without l (makers cs)))
-    by true e f g =
-        ap (map {B = Command} makerOf) (build-known l cs t o e) ∙ f
-        ∙ rw e (ap (λ (l : List Command). map {B = Command} makerOf t ++ l) (sym (unseen-without l t t (known-again t l e) (makers cs))))
-    by false e f g =
-        ap (map {B = Command} makerOf) (build-new l cs t o e) ∙ g
-        ∙ ap (λ (x : List Command). x ++ unseen (t ++ (leaf l ∷ [])) (makers cs)) (map-append makerOf t (leaf l ∷ []))
-        ∙ append-snoc (map {B = Command} makerOf t) (makerOf (leaf l)) (unseen (t ++ (leaf l ∷ [])) (makers cs))
-        ∙ rw e (ap (λ (x : List Command). map {B = Command} makerOf t ++ (Command.Leaf l ∷ x))
-        (sym (unseen-without l t (t ++ (leaf l ∷ [])) (known-leaf t l) (makers cs))))
-build-makers (Command.Join l r ∷ cs) t o =
+    by : (b : Bool) → known t l ≡ b → (u : List Node) × (build cs t o ≡ t ++ u) → (u : List Node) × (build cs (t ++ (leaf l ∷ [])) o ≡ (t ++ (leaf l ∷ [])) ++ u)
+        → (u : List Node) × (build (Command.Leaf l ∷ cs) t o ≡ t ++ u)
+    by true e f g = (f .0, build-known l cs t o e ∙ f .1)
+    by false e f g = (leaf l ∷ g .0, build-new l cs t o e ∙ g .1 ∙ append-snoc t (leaf l) (g .0))
+build-grown (Command.Join l r ∷ cs) t o =
     let j = joined t o l r in
-    let u : List Node = t ++ (j ∷ []) in
-    build-makers cs u (o + len j)
-    ∙ ap (λ (x : List Command). x ++ unseen u (makers cs)) (map-append makerOf t (j ∷ []))
-    ∙ append-snoc (map {B = Command} makerOf t) (makerOf j) (unseen u (makers cs))
-    ∙ (ap (λ (x : List Command). map {B = Command} makerOf t ++ (Command.Join l r ∷ x))
-    (unseen-same u t (known-join t (sideLeaves t l ++ sideLeaves t r) o l r) (makers cs)))
-build-makers (Command.Request n v d ∷ cs) t o = build-makers cs t o
-build-makers (Command.Close ∷ cs) t o = build-makers cs t o
+    let g = build-grown cs (t ++ (j ∷ [])) (o + len j) in
+    (j ∷ g .0, g .1 ∙ append-snoc t j (g .0))
+build-grown (Command.Request n v d ∷ cs) t o = build-grown cs t o
+build-grown (Command.Close ∷ cs) t o = build-grown cs t o
+
+-- A node of a table is the same in a longer one.
+pub node-kept : (cs : List Command) (t : List Node) (o : ℕ) {u : List Node} → u ≡ build cs t o → (n : ℕ) → n < length t → nodeAt u n ≡ nodeAt t n
+node-kept cs t o {u} e n h =
+    let g = build-grown cs t o in
+    ap (λ (x : List Node). nodeAt x n) (e ∙ g .1) ∙ sym (at-more t (g .0) n h)
+
+-- So is the plain form of a side over it.
+pub plain-kept : (cs : List Command) (t : List Node) (o : ℕ) {u : List Node} → u ≡ build cs t o → (s : Side) → s .node < length t
+    → plainForm u s ≡ plainForm t s
+plain-kept cs t o e s h = ap (λ (x : Node). plainOver s (len x)) (node-kept cs t o e (s .node) h)
+
+-- The command that makes the node of a join, in the table u that it and those after it make.
+module _ (u : List Node) (ok : Sized u) (cs : List Command) (t : List Node) (o : ℕ) (l r : Side) (b : u ≡ build (Command.Join l r ∷ cs) t o) where
+  below : (l .node < length t) × (r .node < length t)
+  unfolding build Sized Fit joined
+  below =
+      let j : Node = joined t o l r in
+      let with-join : List Node = t ++ (joined t o l r ∷ []) in
+      let long : length t < length with-join = omega (arith, length-snoc t j) in
+      let is : nodeAt u (length t) ≡ joined t o l r = node-kept cs with-join (o + len j) b (length t) long ∙ at-last t j in
+      let g = build-grown cs with-join (o + len j) in
+      let there : length t < length u = rw (b ∙ g .1) (omega (arith, long, length-append with-join (g .0))) in
+      let f : Fit u (length t) (joined t o l r) = subst (Fit u (length t)) is (ok (length t) there) in
+      (f .0, f .1)
+
+  same-maker : makerOf (joined t o l r) ≡ plainCommand u (Command.Join l r)
+  unfolding makerOf plainCommand joined
+  same-maker = rw (plain-kept (Command.Join l r ∷ cs) t o b l (below .0), plain-kept (Command.Join l r ∷ cs) t o b r (below .1))
+
+-- Each command of a list makes its node after the table t, or none; u is the table that all of them make.
+abbrev MadeAfter : List Node → List Node → List Command → Type 0
+MadeAfter u t cs = map {B = Command} makerOf u ≡ map {B = Command} makerOf t ++ map {B = Command} (plainCommand u) (unseen t (makers cs))
+
+build-makers : (u : List Node) → Sized u → (cs : List Command) (t : List Node) (o : ℕ) → u ≡ build cs t o → MadeAfter u t cs
+unfolding makers unseen build makerOf plainCommand
+build-makers u ok [] t o b = rw b (sym (append-nil (map {B = Command} makerOf t)))
+build-makers u ok (Command.Leaf l ∷ cs) t o b = by (known t l) refl (build-makers u ok cs t o) (build-makers u ok cs (t ++ (leaf l ∷ [])) o)
+  where
+    by : (k : Bool) → known t l ≡ k → (u ≡ build cs t o → MadeAfter u t cs)
+        → (u ≡ build cs (t ++ (leaf l ∷ [])) o → MadeAfter u (t ++ (leaf l ∷ [])) cs)
+        → map {B = Command} makerOf u
+        ≡ map {B = Command} makerOf t ++ map {B = Command} (plainCommand u) (pickOne (known t l) l (unseen t (without l (makers cs))))
+    by true e f g =
+        f (b ∙ build-known l cs t o e)
+        ∙ rw e (ap (λ (x : List Command). map {B = Command} makerOf t ++ map {B = Command} (plainCommand u) x)
+        (sym (unseen-without l t t (known-again t l e) (makers cs))))
+    by false e f g =
+        g (b ∙ build-new l cs t o e)
+        ∙ ap (λ (x : List Command). x ++ map {B = Command} (plainCommand u) (unseen (t ++ (leaf l ∷ [])) (makers cs))) (map-append makerOf t (leaf l ∷ []))
+        ∙ append-snoc (map {B = Command} makerOf t) (makerOf (leaf l)) (map {B = Command} (plainCommand u) (unseen (t ++ (leaf l ∷ [])) (makers cs)))
+        ∙ rw e (ap (λ (x : List Command). map {B = Command} makerOf t ++ (Command.Leaf l ∷ map {B = Command} (plainCommand u) x))
+        (sym (unseen-without l t (t ++ (leaf l ∷ [])) (known-leaf t l) (makers cs))))
+build-makers u ok (Command.Join l r ∷ cs) t o b =
+    let j : Node = joined t o l r in
+    let with-join : List Node = t ++ (joined t o l r ∷ []) in
+    build-makers u ok cs with-join (o + len j) b
+    ∙ ap (λ (x : List Command). x ++ map {B = Command} (plainCommand u) (unseen with-join (makers cs))) (map-append makerOf t (j ∷ []))
+    ∙ append-snoc (map {B = Command} makerOf t) (makerOf j) (map {B = Command} (plainCommand u) (unseen with-join (makers cs)))
+    ∙ ap (λ (x : List Command). map {B = Command} makerOf t ++ (makerOf j ∷ map {B = Command} (plainCommand u) x))
+    (unseen-same with-join t (unfold joined in known-join t _ o _ _) (makers cs))
+    ∙ ap (λ (c : Command). map {B = Command} makerOf t ++ (c ∷ map {B = Command} (plainCommand u) (unseen t (makers cs)))) (same-maker u ok cs t o l r b)
+build-makers u ok (Command.Request n v d ∷ cs) t o b = build-makers u ok cs t o b
+build-makers u ok (Command.Close ∷ cs) t o b = build-makers u ok cs t o b
 
 -- ---- outputs
 
@@ -202,7 +254,7 @@ build-stand v (Command.Leaf l ∷ cs) t o k = by (known t l) refl (build-stand v
     by false e f g = subst (Stands v) (sym (build-new l cs t o e)) g
 build-stand v (Command.Join l r ∷ cs) t o k =
     build-stand v cs (t ++ (joined t o l r ∷ [])) (o + len (joined t o l r))
-    (unfold joined len leaves in stand-join v t o (sideLeaves t l ++ sideLeaves t r) l r k)
+    (unfold joined len leaves in stand-join v t o _ _ _ k)
 build-stand v (Command.Request n w d ∷ cs) t o k = build-stand v cs t o k
 build-stand v (Command.Close ∷ cs) t o k = build-stand v cs t o k
 
@@ -231,11 +283,23 @@ side-of t s = by (s .offset) (s .limit) refl refl
         let c = side-outputs t s (s .limit) a in
         rw (a, b, c) (to-the-limit (omega arith))
 
+-- What a side joins as.
+pub joins-as : (t : List Node) (s : Side) → JoinsAs t s (plainForm t s)
+joins-as t s = by (ℕ-discrete (s .offset) 0) (ℕ-discrete (s .limit) (len (nodeAt t (s .node))))
+  where
+    by : Dec (s .offset ≡ 0) → Dec (s .limit ≡ len (nodeAt t (s .node))) → JoinsAs t s (plainForm t s)
+    by (yes p) (yes q) = rw (whole-form s (len (nodeAt t (s .node))) p q) (as-plain p q)
+    by (yes p) (no q) = rw (other-form s (len (nodeAt t (s .node))) (λ z. q (z .1))) (as-it-is (λ z. q (z .1)))
+    by (no p) d = rw (other-form s (len (nodeAt t (s .node))) (λ z. p (z .0))) (as-it-is (λ z. p (z .0)))
+
 -- ---- all of it
 
 pub nodes-of : (h : Head) (capacity : ℕ) (cs : List Command) (u : State) → AllPassed h capacity cs (start h) u → NodesOf h cs (table h cs)
 nodes-of h capacity cs u a = record {
-  made-by = unfold table in build-makers cs [] (h .variable) ∙ unseen-nil (makers cs);
+  made-by =
+      build-makers (table h cs) (unfold Sized in sized) cs [] (h .variable) (unfold table in refl)
+      ∙ ap (map {B = Command} (plainCommand (table h cs))) (unseen-nil (makers cs));
+  joins-as = joins-as (table h cs);
   leaves-low = λ n l i e. low l (numbered .leaf-low n l i e);
   leaves-own = λ l. unfold leaves output in (refl, refl);
   sides = side-of (table h cs);

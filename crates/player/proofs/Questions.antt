@@ -17,7 +17,7 @@ use Rattle.totdb.specs.Nodes.{Node, leaf, join, nodeAt, len, any, leafOf, isOve
 use Rattle.totdb.specs.declared.Side.{Side}
 use Rattle.cert.specs.State.{State, Head}
 use Rattle.player.specs.Player.{headFits, Question, ask, firstNo, sideFits, questions, act, accepted, refused, play}
-use Rattle.player.specs.Verdict.{ownLiteral, leafLiterals, sideNodes, joinedNodes, OffNode, offset-high, limit-high, covering, No, no-6, no-7, no-8-join, no-8-request, no-9, no-10, no-11, no-12, no-14, order, First, first-here, first-later}
+use Rattle.player.specs.Verdict.{ownLiteral, leafLiterals, sideNodes, joinedNodes, OffNode, offset-high, limit-high, No, no-6, no-7, no-8-join, no-8-request, no-9, no-10, no-11, no-12, no-14, order, First, first-here, first-later}
 use Rattle.player.specs.declared.Command.{Command}
 use Rattle.player.specs.declared.Command.the-variants.{Leaf, Join, Request as Requested, Close}
 use Rattle.player.proofs.Refusal.{play-stops, play-goes, play-over}
@@ -82,11 +82,6 @@ answer-either : {P Q : Type 0} (a b : Bool) → Answer P (notb a) → Answer Q (
 answer-either true b (answer-no p) s = answer-no (inl p)
 answer-either false true (answer-yes n) (answer-no q) = answer-no (inr q)
 answer-either false false (answer-yes n) (answer-yes m) = answer-yes (⊎-elim n m)
-
-answer-two : {P Q : Type 0} (a b : Bool) → Answer P (notb a) → Answer Q (notb b) → Answer (P × Q) (notb (a && b))
-answer-two true true (answer-no p) (answer-no q) = answer-no (p, q)
-answer-two true false (answer-no p) (answer-yes m) = answer-yes (λ k. m (k .1))
-answer-two false b (answer-yes n) s = answer-yes (λ k. n (k .0))
 
 answer-unless : {P Q : Type 0} (a : Bool) {b : Bool} → Answer P (notb a) → Answer Q b → Answer ((P → ⊥) × Q) (a || b)
 answer-unless true (answer-no p) s = answer-yes (λ k. k .0 p)
@@ -165,15 +160,11 @@ pub side-answer : (t : List Node) (s : Side) → Answer (OffNode t s) (sideFits 
 unfolding sideFits
 side-answer t s =
     let n : ℕ = len (nodeAt t (s .node)) in
-    answer-map (⊎-elim (⊎-elim offset-high limit-high) (λ k. covering (k .0) (k .1))) apart
-    (answer-both (answer-both (answer-below (s .offset) n) (answer-most (s .limit) (n - s .offset)))
-    (answer-two (eqb (s .offset) 0) (eqb (s .limit) n) (answer-apart (s .offset) 0) (answer-apart (s .limit) n)))
+    answer-map (⊎-elim offset-high limit-high) apart (answer-both (answer-below (s .offset) n) (answer-most (s .limit) (n - s .offset)))
   where
-    apart : OffNode t s
-        → ((len (nodeAt t (s .node)) ≤ s .offset) ⊎ (len (nodeAt t (s .node)) - s .offset < s .limit)) ⊎ ((s .offset ≡ 0) × (s .limit ≡ len (nodeAt t (s .node))))
-    apart (offset-high l) = inl (inl l)
-    apart (limit-high l) = inl (inr l)
-    apart (covering e f) = inr (e, f)
+    apart : OffNode t s → (len (nodeAt t (s .node)) ≤ s .offset) ⊎ (len (nodeAt t (s .node)) - s .offset < s .limit)
+    apart (offset-high l) = inl l
+    apart (limit-high l) = inr l
 
 -- ---- the questions that a command is put, beside the order
 

@@ -118,6 +118,44 @@ plays-finished h capacity ending (c ∷ cs) p s e = by (play h capacity c s) ref
         let f = ih u (rw (plays-accepted h capacity ending c cs p s u k) at e) in
         record { state = f .state; all = all-more (play-passed h capacity c s u k) (f .all); no-ending = f .no-ending }
 
+-- ---- the table
+
+pub build-known : (l : ℕ) (cs : List Command) (t : List Node) (o : ℕ) → known t l ≡ true → build (Command.Leaf l ∷ cs) t o ≡ build cs t o
+unfolding build
+build-known l cs t o e = rw (e, build)
+
+pub build-new : (l : ℕ) (cs : List Command) (t : List Node) (o : ℕ) → known t l ≡ false
+    → build (Command.Leaf l ∷ cs) t o ≡ build cs (t ++ (leaf l ∷ [])) o
+unfolding build
+build-new l cs t o e = rw (e, build)
+
+-- What a command does to the table and the next variable, `build` does.
+pub build-act : (h : Head) (c : Command) (cs : List Command) (s : State) → firstNo (questions h (s .nodes) c) ≡ 0 → Sound h s
+    → build cs (act c s .nodes) (act c s .next-variable) ≡ build (c ∷ cs) (s .nodes) (s .next-variable)
+unfolding act
+build-act h (Command.Leaf l) cs s q p = by (known (s .nodes) l) refl
+  where
+    after : Bool → State
+    after b = elim b as (λ _. State) [ true ↦ s | false ↦ make (leaf l) 0 s ]
+
+    by : (b : Bool) → known (s .nodes) l ≡ b → build cs (after b .nodes) (after b .next-variable) ≡ build (Command.Leaf l ∷ cs) (s .nodes) (s .next-variable)
+    by true e = sym (build-known l cs (s .nodes) (s .next-variable) e)
+    by false e =
+        unfold make in ap (build cs (s .nodes ++ (leaf l ∷ []))) (omega arith) ∙ sym (build-new l cs (s .nodes) (s .next-variable) e)
+build-act h (Command.Join l r) cs s q p = unfold make build in refl
+build-act h (Command.Request n v d) cs s q p =
+    let t = s .nodes in
+    let e = serve-nodes t (sized-ok t (p .sized)) (requests n v d) (requests-asked t n v d (request-fits h t n v d q)) s in
+    unfold build in rw (e .0, e .1)
+build-act h Command.Close cs s q p = unfold delete build in refl
+
+pub all-built : {h : Head} {capacity : ℕ} {cs : List Command} {s u : State} → AllPassed h capacity cs s u → Sound h s
+    → u .nodes ≡ build cs (s .nodes) (s .next-variable)
+all-built all-done p = unfold build in refl
+all-built {h} (all-more {c} {cs} {s} {u} q r) p =
+    all-built r (subst (Sound h) (q .after) (sound-act h c s (q .asked) p))
+    ∙ ap (λ (x : State). build cs (x .nodes) (x .next-variable)) (sym (q .after)) ∙ build-act h c cs s (q .asked) p
+
 -- ---- the run
 
 pub record Ran (cs : List Command) (s u : State) : Type 0 where
@@ -126,7 +164,6 @@ pub record Ran (cs : List Command) (s u : State) : Type 0 where
   pub nodes : u .nodes ≡ s .nodes ++ made commands
   pub wants : wanted commands ≡ asked cs
   pub rights : (x : Request) → List·Memᴰ x (asked cs) → Right (u .nodes) x
-  pub built : u .nodes ≡ build cs (s .nodes) (s .next-variable)
 
 no-clause : (l ss : List ℕ) → clauses (deletion ss ∷ []) ≡ []
 unfolding clauses
@@ -142,15 +179,6 @@ unfolding view delete keys
 view-delete s = ap {B = Log Request Key (List ℕ) ℕ} (λ (l : List (List ℕ)). record { items = s .held; keys = keys s; clauses = l; summed = [] })
     (delete-clauses s)
 
-pub build-known : (l : ℕ) (cs : List Command) (t : List Node) (o : ℕ) → known t l ≡ true → build (Command.Leaf l ∷ cs) t o ≡ build cs t o
-unfolding build
-build-known l cs t o e = rw (e, build)
-
-pub build-new : (l : ℕ) (cs : List Command) (t : List Node) (o : ℕ) → known t l ≡ false
-    → build (Command.Leaf l ∷ cs) t o ≡ build cs (t ++ (leaf l ∷ [])) o
-unfolding build
-build-new l cs t o e = rw (e, build)
-
 module _ (h : Head) (cs : List Command) (w : State) where
   ran-known : (l : ℕ) (s : State) → known (s .nodes) l ≡ true → Ran cs s w → Ran (Command.Leaf l ∷ cs) s w
   unfolding asked
@@ -160,8 +188,6 @@ module _ (h : Head) (cs : List Command) (w : State) where
     nodes = r .nodes;
     wants = r .wants;
     rights = r .rights;
-    built = r .built
-        ∙ sym (build-known l cs (s .nodes) (s .next-variable) e);
   }
 
   ran-new : (l : ℕ) (s : State) → known (s .nodes) l ≡ false → Ran cs (make (leaf l) 0 s) w → Ran (Command.Leaf l ∷ cs) s w
@@ -172,24 +198,22 @@ module _ (h : Head) (cs : List Command) (w : State) where
     nodes = r .nodes ∙ append-snoc (s .nodes) (leaf l) (made (r .commands));
     wants = r .wants;
     rights = r .rights;
-    built = r .built ∙ ap (build cs (s .nodes ++ (leaf l ∷ []))) (omega arith) ∙ sym (build-new l cs (s .nodes) (s .next-variable) e);
   }
 
   ran-join : (l r : Side) (s : State) → Ran cs (make (joined (s .nodes) (s .next-variable) l r) (len (joined (s .nodes) (s .next-variable) l r)) s) w
       → Ran (Command.Join l r ∷ cs) s w
-  unfolding asked make view keys made wanted build
+  unfolding asked make view keys made wanted
   ran-join l r s k = record {
     commands = Cmd.make (joined (s .nodes) (s .next-variable) l r) ∷ k .commands;
     run = run-make (k .run);
     nodes = k .nodes ∙ append-snoc (s .nodes) (joined (s .nodes) (s .next-variable) l r) (made (k .commands));
     wants = k .wants;
     rights = k .rights;
-    built = k .built;
   }
 
   ran-request : (n v d : ℕ) (s : State) → Sound h s → RequestFits (s .nodes) n v d → Ran cs (serve (s .nodes) (requests n v d) s) w
       → Ran (Command.Request n v d ∷ cs) s w
-  unfolding asked made wanted build
+  unfolding asked made wanted
   ran-request n v d s p f r =
       let t = s .nodes in
       let ok = sized-ok t (p .sized) in
@@ -204,18 +228,16 @@ module _ (h : Head) (cs : List Command) (w : State) where
         wants = ap {B = List Request} (λ (l : List Request). requests n v d ++ l) (r .wants);
         rights = λ x m. ⊎-elim (λ i. rw nodes (right-more t (made (r .commands)) x (requests-right t n v d f x i))) (r .rights x)
             (List·Memᴰ·append-cases (requests n v d) m);
-        built = r .built ∙ rw (e .0, e .1);
       }
 
   ran-close : (s : State) → Ran cs (delete s) w → Ran (Command.Close ∷ cs) s w
-  unfolding asked build
+  unfolding asked
   ran-close s r = record {
     commands = r .commands;
     run = subst (λ (x : Log Request Key (List ℕ) ℕ). Run counters (r .commands) (s .nodes) x (view w)) (view-delete s) (unfold delete in r .run);
     nodes = unfold delete in r .nodes;
     wants = r .wants;
     rights = r .rights;
-    built = unfold delete in r .built;
   }
 
   ran-one : (c : Command) (s : State) → firstNo (questions h (s .nodes) c) ≡ 0 → Sound h s → Ran cs (act c s) w → Ran (c ∷ cs) s w
@@ -231,7 +253,7 @@ module _ (h : Head) (cs : List Command) (w : State) where
   ran-one Command.Close s q p k = ran-close s k
 
 pub all-ran : {h : Head} {capacity : ℕ} {cs : List Command} {s u : State} → AllPassed h capacity cs s u → Sound h s → Ran cs s u × Sound h u
-unfolding made wanted asked build
+unfolding made wanted asked
 all-ran (all-done {s}) p = (
   record {
     commands = [];
@@ -239,8 +261,6 @@ all-ran (all-done {s}) p = (
     nodes = sym (append-nil (s .nodes));
     wants = refl;
     rights = λ x m. absurd (List·Memᴰ·not-nil m);
-    built =
-        refl;
   },
   p,
 )

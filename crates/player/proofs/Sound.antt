@@ -9,9 +9,10 @@ use borrow.Author.Tests.{eq-eqb}
 use lib.ListN.{length, length-append, length-map}
 use Rattle.pb.specs.Sum.{variable}
 use Rattle.memo.proofs.Lists.{not-mem}
-use Rattle.totdb.specs.Nodes.{Node, any, nodeAt, range, limited, plainOr, sideLeaves, sideLen, sideOutputs, outputs, output, len, leaves, join, known, leaf, leafOf, taken, joined}
+use Rattle.totdb.specs.Nodes.{Node, any, nodeAt, range, limited, plainOr, sideLeaves, sideLen, sideOutputs, outputs, output, len, leaves, join, known, leaf, leafOf, taken, plainForm, joinOf, joined}
 use Rattle.totdb.specs.declared.Side.{Side}
 use Rattle.totdb.proofs.Listed.{length-range}
+use Rattle.totdb.proofs.Sides.{plain-length}
 use Rattle.cert.specs.Definitions.{if, only-if, Direction}
 use Rattle.cert.specs.Requests.{Request, nodeOf, request, Right}
 use Rattle.cert.specs.Sized.{Fit}
@@ -71,6 +72,11 @@ side-in t s on =
     let j : ¬ (n - s .offset < s .limit) = λ l. on (limit-high l) in
     (limited-fits (s .offset) (s .limit) n (omega (arith, i)) (omega (arith, j)), omega (arith, i))
 
+-- The plain form of a side is as long.
+pub plain-sideLen : (t : List Node) (s : Side) → sideLen t (plainForm t s) ≡ sideLen t s
+unfolding sideLen
+plain-sideLen t s = plain-length s (len (nodeAt t (s .node)))
+
 -- ---- the invariant
 
 pub sound-start : (h : Head) → Sound h (start h)
@@ -111,7 +117,7 @@ sound-leaf h l s q new p =
 
 -- ---- join
 
--- What questions 8 to 10 say.
+-- What questions 8 to 10 say of two sides.
 pub record JoinFits (t : List Node) (l r : Side) : Type 0 where
   pub left : l .node < length t
   pub right : r .node < length t
@@ -123,7 +129,8 @@ pub record JoinFits (t : List Node) (l r : Side) : Type 0 where
   pub left-some : l .offset < len (nodeAt t (l .node))
   pub right-some : r .offset < len (nodeAt t (r .node))
 
-pub join-fits : (h : Head) (t : List Node) (l r : Side) → firstNo (questions h t (Command.Join l r)) ≡ 0 → JoinFits t l r
+-- They say it of the plain forms too.
+pub join-fits : (h : Head) (t : List Node) (l r : Side) → firstNo (questions h t (Command.Join l r)) ≡ 0 → JoinFits t (plainForm t l) (plainForm t r)
 join-fits h t l r q =
     let there = join-there h t l r q in
     let free = join-free h t l r q in
@@ -134,15 +141,15 @@ join-fits h t l r q =
       apart = join-apart h t l r q;
       left-free = free .0;
       right-free = free .1;
-      left-in = side-in t l (fits .0) .0;
-      right-in = side-in t r (fits .1) .0;
+      left-in = rw (plain-sideLen t l) (side-in t l (fits .0) .0);
+      right-in = rw (plain-sideLen t r) (side-in t r (fits .1) .0);
       left-some = side-in t l (fits .0) .1;
       right-some = side-in t r (fits .1) .1;
     }
 
 sound-join : (h : Head) (l r : Side) (s : State) → JoinFits (s .nodes) l r → Sound h s
-    → Sound h (make (joined (s .nodes) (s .next-variable) l r) (len (joined (s .nodes) (s .next-variable) l r)) s)
-unfolding make joined len leaves
+    → Sound h (make (joinOf (s .nodes) (s .next-variable) l r) (len (joinOf (s .nodes) (s .next-variable) l r)) s)
+unfolding make len leaves
 sound-join h l r s f p =
     let t = s .nodes in
     let ls : List ℕ = sideLeaves t l ++ sideLeaves t r in
@@ -248,7 +255,7 @@ sound-act h (Command.Leaf l) s q p = by (known (s .nodes) l) refl
     by : (b : Bool) → known (s .nodes) l ≡ b → Sound h (elim b as (λ _. State) [ true ↦ s | false ↦ make (leaf l) 0 s ])
     by true e = p
     by false e = sound-leaf h l s q e p
-sound-act h (Command.Join l r) s q p = sound-join h l r s (join-fits h (s .nodes) l r q) p
+sound-act h (Command.Join l r) s q p = unfold joined in sound-join h _ _ s (join-fits h (s .nodes) l r q) p
 sound-act h (Command.Request n v d) s q p =
     let k = serve-nodes (s .nodes) (sized-ok (s .nodes) (p .sized)) (requests n v d)
     (requests-asked (s .nodes) n v d (request-fits h (s .nodes) n v d q)) s in

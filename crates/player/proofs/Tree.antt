@@ -12,7 +12,7 @@ use lib.Dec.{eqb}
 use lib.ListN.{length, length-append}
 use Rattle.sizes.specs.Sizes.{mostLeaves, width}
 use Rattle.pb.specs.Sum.{variable}
-use Rattle.totdb.specs.Nodes.{Node, taken, nodeAt, any, isOver, join, leaf, leafCount, len, known, leaves, joined, sideLeaves, sideLen}
+use Rattle.totdb.specs.Nodes.{Node, taken, nodeAt, any, isOver, join, leaf, leafCount, len, known, leaves, joinOf, joined, sideLeaves, sideLen}
 use Rattle.totdb.specs.declared.Side.{Side}
 use Rattle.cert.specs.State.{State, start, requests, serve, Head}
 use Rattle.cert.proofs.Apart.{sized-ok}
@@ -188,8 +188,8 @@ free-last : (w : Node → ℕ) (t : List Node) (a : Node) → Ok t → isOver (l
 free-last w t a ok e = omega (arith, free-snoc w t a ok e)
 
 treed-join : (h : Head) (l r : Side) (s : State) → JoinFits (s .nodes) l r → Sound h s → Treed h s
-    → Treed h (make (joined (s .nodes) (s .next-variable) l r) (len (joined (s .nodes) (s .next-variable) l r)) s)
-unfolding make joined
+    → Treed h (make (joinOf (s .nodes) (s .next-variable) l r) (len (joinOf (s .nodes) (s .next-variable) l r)) s)
+unfolding make
 treed-join h l r s f p k =
     let t = s .nodes in
     let ok = sized-ok t (p .sized) in
@@ -221,7 +221,7 @@ treed-act h (Command.Leaf l) s q p k = by (known (s .nodes) l) refl
     by : (b : Bool) → known (s .nodes) l ≡ b → Treed h (elim b as (λ _. State) [ true ↦ s | false ↦ make (leaf l) 0 s ])
     by true e = k
     by false e = treed-leaf h l s q e p k
-treed-act h (Command.Join l r) s q p k = treed-join h l r s (join-fits h (s .nodes) l r q) p k
+treed-act h (Command.Join l r) s q p k = unfold joined in treed-join h _ _ s (join-fits h (s .nodes) l r q) p k
 treed-act h (Command.Request n v d) s q p k =
     let t = s .nodes in
     let e = serve-nodes t (sized-ok t (p .sized)) (requests n v d) (requests-asked t n v d (request-fits h t n v d q)) s in

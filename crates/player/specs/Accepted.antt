@@ -9,9 +9,10 @@ use lib.ListN.{length}
 use Rattle.pb.specs.Sum.{variable}
 use Rattle.record.specs.Record.{Record, clause}
 use Rattle.record.specs.Written.{WrittenFor, EachFor, Ended}
-use Rattle.totdb.specs.Nodes.{Node, leaf, join, nodeAt, leaves, len, output, range, sideLen, sideLeaves, any}
+use Rattle.totdb.specs.Nodes.{Node, leaf, join, nodeAt, leaves, len, output, range, sideLen, plainForm, sideLeaves, any}
 use Rattle.totdb.specs.declared.Side.{Side}
 use Rattle.cert.specs.State.{Head}
+use Rattle.player.specs.Called.{plainCommand}
 use Rattle.player.specs.Script.{closes}
 use Rattle.player.specs.declared.Command.{Command}
 
@@ -59,9 +60,16 @@ pub data SideIs (t : List Node) (s : Side) : ℕ → List ℕ → Type 0 where
       → SideIs t s (len (nodeAt t (s .node)) - s .offset) (map (output (nodeAt t (s .node))) (range (s .offset + 1) (len (nodeAt t (s .node)) - s .offset)))
   to-the-limit : 0 < s .limit → SideIs t s (s .limit) (map (output (nodeAt t (s .node))) (range (s .offset + 1) (s .limit)))
 
+-- The side that a join has for the side s of its command. Offset 0 with limit equal to the length hides nothing: it joins as a plain side (document 02,
+-- §3). Any other joins as it is.
+pub data JoinsAs (t : List Node) (s : Side) : Side → Type 0 where
+  as-plain : s .offset ≡ 0 → s .limit ≡ len (nodeAt t (s .node)) → JoinsAs t s (record { node = s .node; offset = 0; limit = 0 })
+  as-it-is : ((s .offset ≡ 0) × (s .limit ≡ len (nodeAt t (s .node))) → ⊥) → JoinsAs t s s
+
 pub record NodesOf (h : Head) (cs : List Command) (t : List Node) : Type 0 where
   -- One node for each of these commands, in their order. A leaf literal seen before gets no new one.
-  pub made-by : map {B = Command} makerOf t ≡ makers cs
+  pub made-by : map {B = Command} makerOf t ≡ map {B = Command} (plainCommand t) (makers cs)
+  pub joins-as : (s : Side) → JoinsAs t s (plainForm t s)
   -- Question 6.
   pub leaves-low : (n l : ℕ) → n < length t → nodeAt t n ≡ leaf l → variable l < h .variable
   -- A leaf's literal is its one output and its leaf list.

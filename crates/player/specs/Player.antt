@@ -28,9 +28,9 @@ firstNo [] = 0
 firstNo (ask n true ∷ qs) = firstNo qs
 firstNo (ask n false ∷ qs) = n
 
--- Over a node of n values: offset below the length, limit at most the length less offset, and not offset 0 with limit equal to the length.
+-- Over a node of n values: offset below the length, and limit at most the length less offset.
 abbrev pub fitsOver : Side → ℕ → Bool
-fitsOver s n = ltb (s .offset) n && leb (s .limit) (n - s .offset) && notb (eqb (s .offset) 0 && eqb (s .limit) n)
+fitsOver s n = ltb (s .offset) n && leb (s .limit) (n - s .offset)
 
 unfoldable pub sideFits : List Node → Side → Bool
 unfolding nodeAt len

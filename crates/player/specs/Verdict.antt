@@ -50,11 +50,11 @@ joinedNodes t = flatMap sideNodes t
 
 -- ---- a command's questions, where they are answered no
 
--- Question 10, of one side: offset not below the length, limit past the length less offset, or offset 0 with limit equal to the length.
+-- Question 10, of one side: offset not below the length, or limit past the length less offset. (A limit that is the whole length is none to it:
+-- document 02, §3.)
 pub data OffNode (t : List Node) (s : Side) : Type 0 where
   offset-high : len (nodeAt t (s .node)) ≤ s .offset → OffNode t s
   limit-high : len (nodeAt t (s .node)) - s .offset < s .limit → OffNode t s
-  covering : s .offset ≡ 0 → s .limit ≡ len (nodeAt t (s .node)) → OffNode t s
 
 -- In the state s, the command is answered no to the question of this number. Question 14 is of the state after it.
 pub data No (h : Head) (capacity : ℕ) (s : State) : Command → ℕ → Type 0 where
@@ -69,7 +69,7 @@ pub data No (h : Head) (capacity : ℕ) (s : State) : Command → ℕ → Type 0
   -- Join: two different nodes, neither under a join?
   no-9 : {l r : Side} → (l .node ≡ r .node) ⊎ (List·Memᴰ (l .node) (joinedNodes (s .nodes)) ⊎ List·Memᴰ (r .node) (joinedNodes (s .nodes)))
       → No h capacity s (Join l r) 9
-  -- Join: offset below the length, limit at most the length less offset, and not offset 0 with limit equal to the length?
+  -- Join: offset below the length, and limit at most the length less offset?
   no-10 : {l r : Side} → OffNode (s .nodes) l ⊎ OffNode (s .nodes) r → No h capacity s (Join l r) 10
   -- Request: value 1 to the length?
   no-11 : {n v d : ℕ} → (v < 1) ⊎ (len (nodeAt (s .nodes) n) < v) → No h capacity s (Requested n v d) 11

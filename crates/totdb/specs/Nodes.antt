@@ -1,5 +1,5 @@
 -- Nodes and sides, as functions of a table of nodes: length, outputs, leaf lists, and what the table has.
-use mathlib.Core.Bool.{Bool, false, _||_}
+use mathlib.Core.Bool.{Bool, true, false, _||_}
 use mathlib.Core.List.{List, [], _∷_, _++_, map}
 use Prim.Native.Nat.{ℕ, zero, suc, _+_, _-_, _*_}
 use lib.Dec.{eqb}
@@ -68,6 +68,18 @@ unfoldable pub sideLen : List Node → Side → ℕ
 unfolding nodeAt len limited
 sideLen t s = lengthOver s (len (nodeAt t (s .node)))
 
+-- The limit k at offset f over n values, and 0 for one that hides nothing: offset 0 with the whole length (document 02, §3).
+unfoldable pub limitOver : ℕ → ℕ → ℕ → ℕ
+limitOver zero k n = elim (eqb k n) [ true ↦ 0 | false ↦ k ]
+limitOver (suc f) k n = k
+
+-- A side of a node of n values in its plain form: it has no limit that hides nothing.
+abbrev pub plainOver : Side → ℕ → Side
+plainOver s n = record { node = s .node; offset = s .offset; limit = limitOver (s .offset) (s .limit) n }
+
+abbrev pub plainForm : List Node → Side → Side
+plainForm t s = plainOver s (len (nodeAt t (s .node)))
+
 -- The a-th literal is the node's output f + a.
 unfoldable pub sideLit : List Node → Side → ℕ → ℕ
 unfolding nodeAt output
@@ -93,10 +105,14 @@ unfoldable pub sideLeaves : List Node → Side → List ℕ
 unfolding nodeAt leaves sideOutputs plainOr
 sideLeaves t s = plainOr (s .offset) (s .limit) (leaves (nodeAt t (s .node))) (sideOutputs t s)
 
--- The join of two sides, its outputs on the variables from o up.
+-- The join of two sides as they are, its outputs on the variables from o up.
+abbrev pub joinOf : List Node → ℕ → Side → Side → Node
+joinOf t o l r = join (sideLeaves t l ++ sideLeaves t r) o l r
+
+-- The join of two sides, each in its plain form.
 unfoldable pub joined : List Node → ℕ → Side → Side → Node
-unfolding sideLeaves
-joined t o l r = join (sideLeaves t l ++ sideLeaves t r) o l r
+unfolding nodeAt len limitOver sideLeaves
+joined t o l r = joinOf t o (plainForm t l) (plainForm t r)
 
 -- ---- what a table has
 

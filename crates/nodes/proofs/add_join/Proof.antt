@@ -1,80 +1,38 @@
--- `nodes::add_join` meets its contract: what its calls leave is the table with the join (`table-join`).
-use native.Mathlib.Omega.{arith}
+-- `nodes::add_join` meets its contract: the join of the plain forms is put (`plain-joinable`).
 use borrow.Author.Needs.{needs}
-use Rattle.nodes.proofs.Adding.{left-side, right-side, both-fit, length-join, table-join}
+use Rattle.totdb.specs.Nodes.{joined}
+use Rattle.nodes.proofs.Adding.{plain-joinable}
 use Rattle.nodes.proofs.add_join.Statement.{statement}
 use Rattle.nodes.proofs.add_join.Tie as tie
 
-side-len-requires : tie.Need-side-len-requires
-side-len-requires c κs = search needs
+plain-form-requires : tie.Need-plain-form-requires
+plain-form-requires c κs = search needs
 
-side-len-requires-2 : tie.Need-side-len-requires-2
-side-len-requires-2 c κs = search needs
+plain-form-requires-2 : tie.Need-plain-form-requires-2
+plain-form-requires-2 c κs = search needs
 
-join-row-requires : tie.Need-join-row-requires
-join-row-requires c κs =
+put-join-requires : tie.Need-put-join-requires
+put-join-requires c κs =
     let second = c .before in
     let first = second .before .before in
     let start = first .before .before .before in
     let t = start .pre .1 .0 in
     let j = start .pre .1 .1 in
-    let e = first .side-len .ensures t (j .table) (j .left) in
-    let f = second .side-len2 .ensures t (j .table) (j .right) in
-    ((j .room, j .low, both-fit j e f), (t, left-side j e f, right-side j e f))
-
-put-row-requires : tie.Need-put-row-requires
-put-row-requires c κs = search needs
-
-mark-requires : tie.Need-mark-requires
-mark-requires c κs = search needs
-
-mark-requires-2 : tie.Need-mark-requires-2
-mark-requires-2 c κs = search needs
-
-add-result : tie.Need-add-result
-add-result c =
-    let second = c .before .before .before .before .before .before .before .before .before .before .before .before .before .before .before .before .before in
-    let first = second .before .before in
-    let start = first .before .before .before in
-    let t = start .pre .1 .0 in
-    let j = start .pre .1 .1 in
-    omega (arith, both-fit j (first .side-len .ensures t (j .table) (j .left)) (second .side-len2 .ensures t (j .table) (j .right)))
+    (start .pre .0, (t, rw (first .plain-form .ensures t (j .table) (j .left), second .plain-form2 .ensures t (j .table) (j .right)) (plain-joinable j)))
 
 same-length : tie.Need-same-length
 same-length c = search needs
 
 returns : tie.Need-returns
+unfolding joined
 returns c =
-    let right = c .before .before in
-    let left = right .before .before .before .before in
-    let put = left .before .before .before .before in
-    let row = put .before .before .before .before .before in
-    let second = row .before .before in
+    let put = c .before .before in
+    let second = put .before .before in
     let first = second .before .before in
-    let start = first .before .before .before in
     λ t j.
-    let e = first .side-len .ensures t (j .table) (j .left) in
-    let f = second .side-len2 .ensures t (j .table) (j .right) in (
-      length-join j e f,
-      rw (
-        right .mark2 .ensures,
-        left .mark .ensures,
-        put .put-row .ensures,
-        row .join-row .ensures .0,
-        row .join-row .ensures .1 t (left-side j e f) (right-side j e f),
-      ) (table-join j (start .pre .0)),
-    )
+    let e = first .plain-form .ensures t (j .table) (j .left) in
+    let f = second .plain-form2 .ensures t (j .table) (j .right) in
+    rw (e, f) at (put .put-join .ensures) t (plain-joinable j)
 
 pub add-join-spec : {M : Type 1} → statement M
-add-join-spec =
-    tie.close
-    (tie.spec
-    side-len-requires
-    side-len-requires-2
-    join-row-requires
-    put-row-requires
-    mark-requires
-    mark-requires-2
-    add-result
-    same-length
-    returns)
+add-join-spec = tie.close (tie.spec plain-form-requires plain-form-requires-2 put-join-requires same-length returns)
