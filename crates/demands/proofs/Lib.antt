@@ -5,5 +5,6 @@ pub mod Demand2
 pub mod Demand3
 pub mod Needed
 pub mod Fields
+pub mod Windows
 pub mod Cases
 pub mod Worked

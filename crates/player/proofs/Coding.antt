@@ -66,7 +66,7 @@ CloseLast [] = Unit {0}
 CloseLast (c ∷ []) = Unit {0}
 CloseLast (c ∷ d ∷ cs) = (closes c ≡ false) × CloseLast (d ∷ cs)
 
-small-split : (ms ns : List ℕ) → Small (ms ++ ns) → Small ms × Small ns
+pub small-split : (ms ns : List ℕ) → Small (ms ++ ns) → Small ms × Small ns
 unfolding Small
 small-split [] ns s = (tt, s)
 small-split (m ∷ ms) ns s = let r = small-split ms ns (s .1) in ((s .0, r .0), r .1)
@@ -82,7 +82,7 @@ command-then : (k : ℕ) (c : Command) (rest : List ℕ) → Small (commandNumbe
 unfolding readCommands
 command-then k c rest s = rw (command-back c rest s, readCommands)
 
-bytes-cons : (c : Command) (cs : List Command)
+pub bytes-cons : (c : Command) (cs : List Command)
     → flatMap encode (flatMap commandNumbers (c ∷ cs)) ≡ commandBytes c ++ flatMap encode (flatMap commandNumbers cs)
 unfolding flatMap
 bytes-cons c cs = flatMap-append encode (commandNumbers c) (flatMap commandNumbers cs)

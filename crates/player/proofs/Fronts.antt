@@ -18,12 +18,12 @@ use Rattle.player.proofs.Coding.{commandBytes, some-bytes, command-back
 
 -- ---- numbers
 
-short-small : (ns : List ℕ) → ((x : ℕ) → List·Memᴰ x ns → length (encode x) ≤ groups) → Small ns
+pub short-small : (ns : List ℕ) → ((x : ℕ) → List·Memᴰ x ns → length (encode x) ≤ groups) → Small ns
 unfolding Small
 short-small [] h = tt
 short-small (n ∷ ns) h = (encode-length n groups (omega arith) .0 (h n (List·Memᴰ·head refl)), short-small ns (λ x m. h x (List·Memᴰ·tail m)))
 
-small-short : (ns : List ℕ) → Small ns → (x : ℕ) → List·Memᴰ x ns → length (encode x) ≤ groups
+pub small-short : (ns : List ℕ) → Small ns → (x : ℕ) → List·Memᴰ x ns → length (encode x) ≤ groups
 unfolding Small
 small-short [] s x m = absurd (List·Memᴰ·not-nil m)
 small-short (n ∷ ns) s x m =

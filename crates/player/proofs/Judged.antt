@@ -44,7 +44,7 @@ record At (bs : List ℕ) (capacity : ℕ) (h : Head) (cs : List Command) (s : S
   plays-on : played bs capacity ≡ plays h capacity (readCommands fuel closed rest .ending) (readCommands fuel closed rest .list) (length cs) s
 
 -- The head reads.
-head-script : {bs rest : List ℕ} (h : Head) → Reads bs (h .variable ∷ h .step ∷ []) rest → readScript bs ≡ script h (readCommands (length rest) false rest)
+pub head-script : {bs rest : List ℕ} (h : Head) → Reads bs (h .variable ∷ h .step ∷ []) rest → readScript bs ≡ script h (readCommands (length rest) false rest)
 head-script {bs} {rest} h k =
     let a = reads-cons k in
     script-is bs (h .variable) (a .0) (h .step) rest (a .1) (reads-one (a .2))
@@ -92,14 +92,14 @@ unfolding closes
 close-closes c e f = let z : closes Close ≡ false = subst (λ (x : Command). closes x ≡ false) (sym e) f in let y : _≡_ {A = ℕ} 0 1 = cc in omega arith
 
 -- The next command is read.
-read-on : (fuel : ℕ) (closed : Bool) (rest : List ℕ) (c : Command) (more : List ℕ) → length rest ≤ fuel → length more < length rest
+pub read-on : (fuel : ℕ) (closed : Bool) (rest : List ℕ) (c : Command) (more : List ℕ) → length rest ≤ fuel → length more < length rest
     → readCommand closed rest ≡ command c more
     → (k : ℕ) × (length more ≤ k) × (readCommands fuel closed rest ≡ before c (readCommands k (closes c) more))
 unfolding readCommands
 read-on zero closed rest c more l m e = absurd (omega arith)
 read-on (suc k) closed rest c more l m e = (k, omega arith, rw (e, readCommands))
 
-read-refused : (fuel : ℕ) (closed : Bool) (rest : List ℕ) (n : ℕ) → length rest ≤ fuel → readCommand closed rest ≡ refuse n
+pub read-refused : (fuel : ℕ) (closed : Bool) (rest : List ℕ) (n : ℕ) → length rest ≤ fuel → readCommand closed rest ≡ refuse n
     → readCommands fuel closed rest ≡ record { list = []; ending = n }
 unfolding readCommands readCommand stop
 read-refused zero closed [] n l e = absurd (let z : _≡_ {A = ℕ} 0 1 = cc in omega arith)
