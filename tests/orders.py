@@ -1,7 +1,7 @@
 #!/usr/bin/env python3
 # Pairs of random scripts with the same leaves, joins and set of requests: orders.py SHEET DRIVER
-# The requests come in another order, between other joins, repeated, both as two; a close ends one, both or neither. The two
-# sheets are equal byte by byte. For a part of the pairs the logs and the clauses for a solver are looked at too: the logs
+# The requests come in another order, between other joins, repeated, both as two; sides that show a whole node have its
+# length for a limit here and none there; a close ends one, both or neither. The two sheets are equal byte by byte. For a part of the pairs the logs and the clauses for a solver are looked at too: the logs
 # differ in order, or the test would show little, and the clauses are the sheet's lines. SEED=N repeats a run, COUNT=N is
 # another number of pairs.
 import os, random, subprocess, sys, time
@@ -21,9 +21,20 @@ def side(node, length, windows):
     if length > 1 and random.random() < windows:
         offset = random.randrange(length)
         limit = random.randint(0, length - offset)
-        if (offset or limit) and (offset, limit) != (0, length):
-            return [node, offset, limit], limit or length - offset
+        return [node, offset, limit], limit or length - offset
     return [node, 0, 0], length
+
+
+def written(command, nodes):
+    """A command in other words: the length of a node for no limit, or no limit for the length."""
+    if command[0] != JOIN:
+        return command
+    sides = [command[1:4], command[4:]]
+    for side in sides:
+        whole = nodes[side[0]][1]
+        if side[1] == 0 and side[2] in (0, whole):
+            side[2] = random.choice([0, 0, whole])
+    return [JOIN] + sides[0] + sides[1]
 
 
 def counters():
@@ -69,7 +80,7 @@ def script(head, commands, nodes, wanted):
     placed = [[] for _ in range(len(commands) + 1)]
     for request in named:
         placed[len(commands) if late else random.randint(nodes[request[1]][0], len(commands))].append(request)
-    played = placed[0] + [c for command, after in zip(commands, placed[1:]) for c in [command, *after]]
+    played = placed[0] + [c for command, after in zip(commands, placed[1:]) for c in [written(command, nodes), *after]]
     return b"".join(map(coded, sum(played, head))) + (bytes([CLOSE]) if random.random() < 0.5 else b"")
 
 

@@ -38,9 +38,7 @@ impl Desk {
 
     fn fits(&self, side: Side, counters: &Counters) -> bool {
         let length = counters.length_of(side.node);
-        side.offset < length
-            && side.limit <= length - side.offset
-            && !(side.offset == 0 && side.limit == length)
+        side.offset < length && side.limit <= length - side.offset
     }
 
     /// Questions 4 and 5, and 2 for each number.
@@ -94,6 +92,20 @@ impl Desk {
     }
 }
 
+/// The side with no limit that hides nothing: offset 0 with the whole length (document 02, §3).
+fn plain_form(side: Side, counters: &Counters) -> Side {
+    let hides_nothing = side.offset == 0 && side.limit == counters.length_of(side.node);
+    Side { limit: if hides_nothing { 0 } else { side.limit }, ..side }
+}
+
+/// The command that rustsat is run on for it.
+fn for_rustsat(command: Command, counters: &Counters) -> Command {
+    match command {
+        Command::Join(left, right) => Command::Join(plain_form(left, counters), plain_form(right, counters)),
+        other => other,
+    }
+}
+
 /// Hands a command to rustsat.
 pub fn act(command: Command, counters: &mut Counters) {
     match command {
@@ -113,7 +125,7 @@ fn command(
 ) -> Result<(), Refusal> {
     let command = desk.read(reader)?;
     desk.judge(command, counters)?;
-    act(command, counters);
+    act(for_rustsat(command, counters), counters);
     desk.note(command);
     ask(14, counters.log_length() <= capacity as usize)
 }

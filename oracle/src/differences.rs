@@ -1,4 +1,4 @@
-//! What rustsat does with commands that document 01 refuses or settles another way: each played with the
+//! What rustsat does with commands that the documents refuse or settle another way: each played with the
 //! questions off. docs/DIFFERENCES.md quotes what this prints.
 
 use std::panic::{catch_unwind, AssertUnwindSafe};
@@ -22,8 +22,8 @@ fn differences() -> Vec<(&'static str, Vec<u8>)> {
     let on_pair = |rest: &[u8]| [PAIR, rest].concat();
     let on_both = |rest: &[u8]| [PAIR_AND_LEAF, rest].concat();
     vec![
-        ("a limit that covers the node (question 10)", on_both(&[2, 3, 0, 2, 2, 0, 0, 3, 4, 1, 1])),
-        ("a limit that covers a leaf (question 10)", vec![2, 1, 1, 0, 1, 2, 2, 0, 0, 1, 1, 0, 0, 3, 2, 1, 1]),
+        ("a limit that is the node's length (document 02, §3)", on_both(&[2, 3, 0, 2, 2, 0, 0, 3, 4, 1, 1])),
+        ("a limit that is a leaf's length (document 02, §3)", vec![2, 1, 1, 0, 1, 2, 2, 0, 0, 1, 1, 0, 0, 3, 2, 1, 1]),
         ("a limit past the node (question 10)", on_both(&[2, 3, 0, 3, 2, 0, 0, 3, 4, 1, 1])),
         ("a limit past the rest of the node (question 10)", on_both(&[2, 3, 1, 2, 2, 0, 0, 3, 4, 1, 1])),
         ("an offset equal to the length (question 10)", on_both(&[2, 3, 2, 0, 2, 0, 0, 3, 4, 1, 1])),
@@ -118,7 +118,11 @@ pub fn print() {
     for (title, script) in differences() {
         println!("\n{title}\n  script {}", hex(&script));
         let ours = play(&Case { script: script.clone(), capacity: WHOLE_LOG });
-        println!("  document 01: {} at {}", ours.number, ours.place);
+        println!("  documents: {} at {}", ours.number, ours.place);
+        if ours.number == 0 {
+            println!("  {} bytes, {} steps, {} clauses, {} nodes", ours.length, ours.steps, ours.clauses, ours.nodes);
+            show_log(&ours.log).iter().for_each(|line| println!("    {line}"));
+        }
         match catch_unwind(AssertUnwindSafe(|| play_unasked(&script))) {
             Err(cause) => println!("  rustsat: panics: {}", panic_text(cause)),
             Ok(counters) => print_played(&counters, &script),

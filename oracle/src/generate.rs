@@ -30,17 +30,17 @@ impl Draft {
         let length = self.lengths[node as usize];
         let offset = if random.chance(30) { 0 } else { random.from(0, length - 1) };
         let limit = if random.chance(40) { 0 } else { random.from(1, length - offset) };
-        let hides_nothing = offset == 0 && limit == length;
-        Side { node, offset, limit: if hides_nothing { 0 } else { limit } }
+        Side { node, offset, limit }
     }
 
-    fn join(&mut self, random: &mut Random, left: u32, right: u32, windows: u32) {
+    /// Of a hundred sides `windows` may be windows; of a hundred others, `full` have a limit that hides nothing.
+    fn join(&mut self, random: &mut Random, left: u32, right: u32, windows: u32, full: u32) {
         let [l, r] = [left, right].map(|node| {
             if random.chance(windows) {
-                self.window(random, node)
-            } else {
-                Side { node, offset: 0, limit: 0 }
+                return self.window(random, node);
             }
+            let limit = if random.chance(full) { self.lengths[node as usize] } else { 0 };
+            Side { node, offset: 0, limit }
         });
         let length = |s: Side| match s.limit {
             0 => self.lengths[s.node as usize] - s.offset,
@@ -124,6 +124,7 @@ pub fn script(random: &mut Random, most_leaves: u32) -> Vec<u8> {
 
     leaves(random, &mut draft, count, first_variable);
     let windows = random.pick(&[0, 0, 20, 50, 90]);
+    let full = random.pick(&[0, 0, 20, 60]);
     let between = random.pick(&[0, 0, 10, 40]);
     let shape = random.from(0, 2);
     while draft.free.len() > 1 && !random.chance(2) {
@@ -136,7 +137,7 @@ pub fn script(random: &mut Random, most_leaves: u32) -> Vec<u8> {
         };
         let left = draft.take(first);
         let right = draft.take(second);
-        draft.join(random, left, right, windows);
+        draft.join(random, left, right, windows, full);
         if random.chance(between) {
             let node = random.from(0, draft.lengths.len() as u32 - 1);
             draft.request(random, node);
@@ -173,7 +174,7 @@ pub fn large_script(random: &mut Random) -> Vec<u8> {
         let left = draft.take(if chain { draft.free.len() - 1 } else { 0 });
         let right = draft.take(0);
         let windows = random.pick(&[0, 10]);
-        draft.join(random, left, right, windows);
+        draft.join(random, left, right, windows, 10);
     }
     let root = draft.lengths.len() as u32 - 1;
     let value = random.pick(&[1, 2, draft.lengths[root as usize]]);

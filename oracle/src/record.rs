@@ -41,6 +41,39 @@ fn at_limits() -> Vec<Vec<u8>> {
         .collect()
 }
 
+/// A chain over four leaves. `first` has the limits of the two leaves of its first join, of length 2, `second` the offset and
+/// the limit of that one in the next, `third` the limits of the two sides of the last, where `true` is the whole length.
+/// Then each output of the last both ways, and a close.
+fn chain(first: [u32; 2], second: [u32; 2], third: [bool; 2]) -> Vec<u8> {
+    let mut script = vec![4, 1];
+    let side = |node, offset, limit| Side { node, offset, limit };
+    [0, 2, 5, 7].iter().for_each(|literal| Command::Leaf(*literal).put(&mut script));
+    Command::Join(side(0, 0, first[0]), side(1, 0, first[1])).put(&mut script);
+    let [offset, limit] = second;
+    Command::Join(side(4, offset, limit), side(2, 0, 0)).put(&mut script);
+    let length = if limit > 0 { limit + 1 } else { 3 - offset };
+    let full = |place: usize, length| if third[place] { length } else { 0 };
+    Command::Join(side(5, 0, full(0, length)), side(3, 0, full(1, 1))).put(&mut script);
+    (1..=length + 1).for_each(|value| Command::Request { node: 6, value, direction: 3 }.put(&mut script));
+    Command::Close.put(&mut script);
+    script
+}
+
+/// Limits that are the whole length: of leaves, of a join, of a join over a window, on the left, on the right and on both
+/// sides; and one past the length.
+fn full_limits() -> Vec<Vec<u8>> {
+    let seconds = [[0, 0], [0, 2], [1, 0], [0, 1]];
+    let on_both = seconds.iter().flat_map(|second| {
+        [[0, 0], [1, 0], [0, 1], [1, 1]].map(|first| chain(first, *second, [true, true]))
+    });
+    let on_one = seconds
+        .iter()
+        .flat_map(|second| [[true, false], [false, true]].map(|third| chain([0, 0], *second, third)));
+    let past = [([2, 0], [0, 0]), ([0, 2], [0, 0]), ([0, 0], [0, 3]), ([0, 0], [1, 2])]
+        .map(|(first, second)| chain(first, second, [false, false]));
+    on_both.chain(on_one).chain(past).collect()
+}
+
 pub fn list() -> Vec<(Case, Answer)> {
     let mut list = vec![];
     for expected in refusals::list() {
@@ -60,7 +93,7 @@ pub fn list() -> Vec<(Case, Answer)> {
         }
         kept
     };
-    for script in at_limits() {
+    for script in at_limits().into_iter().chain(full_limits()) {
         add(Case { script, capacity: WHOLE_LOG }, MOST_LOG);
     }
     let mut left = 1_300;

@@ -151,16 +151,17 @@ pub fn list() -> Vec<Expected> {
     add(9, 4, WHOLE, &[&PAIR[..13], &[2, 2, 7, 7, 1, 7, 7]]);
     add(9, 4, WHOLE, &[&PAIR[..13], &[2, 2, 7, 0, 2, 0, 0]]);
 
-    // 10: the window lies in its node and hides something
+    // 10: what a side shows lies in its node; the whole node passes
     add(0, 7, WHOLE, &[THREE, &[2, 5, 2, 0, 3, 0, 0]]);
     add(10, 7, WHOLE, &[THREE, &[2, 5, 3, 0, 3, 0, 0]]);
     add(0, 7, WHOLE, &[THREE, &[2, 5, 0, 2, 3, 0, 0]]);
-    add(10, 7, WHOLE, &[THREE, &[2, 5, 0, 3, 3, 0, 0]]);
+    add(0, 7, WHOLE, &[THREE, &[2, 5, 0, 3, 3, 0, 0]]);
     add(10, 7, WHOLE, &[THREE, &[2, 5, 0, 4, 3, 0, 0]]);
     add(0, 7, WHOLE, &[THREE, &[2, 5, 1, 2, 3, 0, 0]]);
     add(10, 7, WHOLE, &[THREE, &[2, 5, 1, 3, 3, 0, 0]]);
     add(10, 7, WHOLE, &[THREE, &[2, 3, 0, 0, 5, 3, 0]]);
-    add(10, 7, WHOLE, &[THREE, &[2, 5, 0, 0, 3, 0, 1]]);
+    add(0, 7, WHOLE, &[THREE, &[2, 5, 0, 0, 3, 0, 1]]);
+    add(10, 7, WHOLE, &[THREE, &[2, 5, 0, 0, 3, 0, 2]]);
     add(10, 7, WHOLE, &[THREE, &[2, 5, 0, 0, 3, 1, 0]]);
     add(10, 7, WHOLE, &[THREE, &[2, 5], LARGEST, LARGEST, &[3, 0, 0]]);
 

@@ -2,7 +2,7 @@
 use mathlib.Core.Path.{_≡_, refl, sym, _∙_, ap, subst}
 use mathlib.Core.Bool.{Bool, true, false, _&&_}
 use mathlib.Core.Logic.{inr}
-use mathlib.Core.List.{List, [], _∷_, _++_, map, flatMap, append-assoc, Memᴰ·append-right}
+use mathlib.Core.List.{List, [], _∷_, _++_, map, flatMap, append-assoc, append-nil, Memᴰ·append-right}
 use Prim.Native.Nat.{ℕ, zero, suc, _+_, _-_, _^_, _≤_, _<_}
 use native.Mathlib.Decide.{decLe}
 use native.Mathlib.Omega.{arith}
@@ -125,6 +125,13 @@ unfolding flatMap
 numbers-bytes [] rest w = w
 numbers-bytes (n ∷ ns) rest w =
     rw (append-assoc (encode n) (flatMap encode ns) rest) (append-bytes (encode n) (flatMap encode ns ++ rest) (encode-bytes n) (numbers-bytes ns rest w))
+
+-- The same numbers, with bytes after them.
+pub reads-more : {bs ns : List ℕ} → Reads bs ns [] → (rest : List ℕ) → Reads (bs ++ rest) ns rest
+reads-more {ns = ns} k rest = record {
+  coded = ap (λ (x : List ℕ). x ++ rest) (k .coded ∙ append-nil (flatMap encode ns));
+  short = k .short;
+}
 
 -- The rest of the numbers, from where they stand.
 reads-rest : (ns ms : List ℕ) {bs rest : List ℕ} → Reads bs (ns ++ ms) rest → Reads (flatMap encode ms ++ rest) ms rest
