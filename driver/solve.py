@@ -108,8 +108,8 @@ for shape in (balanced, chain):
         script = Script(LEAVES[:4])
         hold(f"{shape.__name__} counter of 4, {direction}", script, shape(script, range(4)), direction)
 
-# joins of windows over a counter of 3 and one of 3 or 2, and a window over a join of windows
-WINDOWS = [(1, 0), (2, 0), (0, 1), (0, 2), (1, 1)]
+# joins of windows over a counter of 3 and one of 3 or 2, and a window over a join of windows; limit 3 hides nothing
+WINDOWS = [(1, 0), (2, 0), (0, 1), (0, 2), (1, 1), (0, 3)]
 for left in WINDOWS:
     script = Script(LEAVES[:5])
     a, b = chain(script, [0, 1, 2]), balanced(script, [3, 4])

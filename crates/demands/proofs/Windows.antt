@@ -1,114 +1,109 @@
 -- Document 02, §3: a limit that hides nothing. A script plays as the same script with limit 0 for each.
 use mathlib.Core.Path.{_≡_, refl, sym, _∙_, ap, subst}
 use mathlib.Core.Bool.{Bool, true, false, _&&_}
-use mathlib.Core.Logic.{inr}
-use mathlib.Core.List.{List, [], _∷_, _++_, map, flatMap, append-assoc, append-nil, Memᴰ·append-right}
-use Prim.Native.Nat.{ℕ, zero, suc, _+_, _-_, _^_, _≤_, _<_}
+use mathlib.Core.Logic.{_⊎_, inl, inr, ⊎-elim}
+use mathlib.Core.List.{List, [], _∷_, _++_, flatMap, append-assoc, append-nil, Memᴰ·append-right}
+use Prim.Native.Nat.{ℕ, zero, suc, _+_, _-_, _≤_, _<_}
 use native.Mathlib.Decide.{decLe}
 use native.Mathlib.Omega.{arith}
 use borrow.Author.Tests.{le-leb, ltb-true}
 use lib.Dec.{leb, ltb}
 use lib.ListN.{length, length-append, List·getD-eq-default}
-use Rattle.number.specs.Number.{groups, Bytes, encode}
+use Rattle.number.specs.Number.{Bytes, encode}
 use Rattle.number.proofs.Laws.{encode-some, encode-length, encode-bytes}
 use Rattle.memo.proofs.Lists.{flatMap-append}
 use Rattle.record.proofs.Decode.{Small}
 use Rattle.totdb.specs.Nodes.{Node, leaf, nodeAt, leaves, len, limitOver, plainForm, joinOf, joined}
 use Rattle.totdb.specs.declared.Side.{Side}
-use Rattle.totdb.proofs.Sides.{by-limit, limit-lower, limit-twice}
+use Rattle.totdb.proofs.Sides.{limit-lower, whole-form}
 use Rattle.cert.specs.State.{State, start, Head}
-use Rattle.player.specs.Called.{build, table, plainCommand, plainCommands}
+use Rattle.player.specs.Accepted.{Pointwise, pointwise-nil, pointwise-cons}
+use Rattle.player.specs.Called.{build, table}
 use Rattle.player.specs.Formed.{Sound}
-use Rattle.player.specs.Passes.{AllPassed}
-use Rattle.player.specs.Player.{firstNo, ask, fitsOver, sideFits, questions, make, act, Result, accepted, refused, fitted, play, plays, Outcome, headFits, playScript, played}
+use Rattle.player.specs.Passes.{AllPassed, all-done, all-more}
+use Rattle.player.specs.Player.{firstNo, sideFits, questions, make, act, Result, accepted, refused, fitted, play, plays, Outcome, headFits, playScript, played}
 use Rattle.player.specs.Script.{Next, command, refuse, end, closes, Commands, before, readCommand, readCommands, script, readScript, commandNumbers, scriptBytes}
-use Rattle.player.specs.Verdict.{Reads, IsScript, Reached}
+use Rattle.player.specs.Verdict.{Reads, Begins, Reached}
 use Rattle.player.specs.declared.Command.{Command}
-use Rattle.demands.specs.Demands.{Demand3}
-use Rattle.demands.specs.Windows.{Begins, plainBytes, HidesNothing}
-use Rattle.player.proofs.Accepted.{reached-reads, accepted-reached}
+use Rattle.demands.specs.Windows.{DropsSide, dropped, kept, DropsCommand, in-join, unchanged, Others, HidesNothing}
 use Rattle.player.proofs.Coding.{bytes-cons, small-split, nothing-left}
 use Rattle.player.proofs.Fronts.{short-small, small-short, reads-cons, reads-nil, reads-split, rest-bytes, reads-command, command-reads, command-shorter, closed-code}
 use Rattle.player.proofs.Formed.{formed-start, all-formed}
 use Rattle.player.proofs.Judged.{head-script, read-on, read-refused, reached-all}
 use Rattle.player.proofs.Matching.{nodes-table}
-use Rattle.player.proofs.Nodes.{joins-as, plain-kept}
+use Rattle.player.proofs.Nodes.{node-kept}
 use Rattle.player.proofs.Questions.{answered-no, sizes, sized, join-there}
 use Rattle.player.proofs.Refusal.{play-passed, plays-accepted, plays-refused, script-true, script-false, played-true, played-false}
 use Rattle.player.proofs.Runs.{build-act}
 use Rattle.player.proofs.Sound.{sound-start, sound-act}
-use Rattle.demands.proofs.Demand3.{demand-3}
 
--- ---- a side, and a join
+-- ---- a side, over nodes that t and a longer table u have alike
 
-module _ (t : List Node) where
-  fits-plain : (s : Side) → sideFits t (plainForm t s) ≡ sideFits t s
-  unfolding sideFits
-  fits-plain s =
-      let n : ℕ = len (nodeAt t (s .node)) in
-      ap (λ (b : Bool). ltb (s .offset) (len (nodeAt t (s .node))) && b)
-      (by-limit (s .offset) (s .limit) n (λ k. leb k (n - s .offset) ≡ leb (s .limit) (n - s .offset))
-      (λ p q. le-leb 0 (n - s .offset) (omega arith) ∙ sym (le-leb (s .limit) (n - s .offset) (omega (arith, p, q)))) (λ _. refl))
+module _ (t u : List Node) (alike : (n : ℕ) → n < length t → nodeAt u n ≡ nodeAt t n) where
+  same-node : {s a : Side} → DropsSide u s a → a .node ≡ s .node
+  same-node (dropped p q) = refl
+  same-node kept = refl
 
-  plain-twice : (s : Side) → plainForm t (plainForm t s) ≡ plainForm t s
-  plain-twice s =
-      ap {B = Side} (λ (k : ℕ). record { node = s .node; offset = s .offset; limit = k }) (limit-twice (s .offset) (s .limit) (len (nodeAt t (s .node))))
+  whole-here : (s : Side) → s .limit ≡ len (nodeAt u (s .node)) → s .node < length t → s .limit ≡ len (nodeAt t (s .node))
+  whole-here s q i = omega (arith, q, ap len (alike (s .node) i))
 
-  joined-plain : (o : ℕ) (l r : Side) → joined t o (plainForm t l) (plainForm t r) ≡ joined t o l r
-  unfolding joined
-  joined-plain o l r =
-      ap (λ (x : Side). joinOf t o x (plainForm t (plainForm t r))) (plain-twice l) ∙ ap (joinOf t o (plainForm t l)) (plain-twice r)
-
--- ---- a command, in the state s; u is a table in which the nodes of s have the same plain forms
-
-module _ (h : Head) (capacity : ℕ) (u : List Node) (s : State)
-    (kept : (c : Side) → c .node < length (s .nodes) → plainForm u c ≡ plainForm (s .nodes) c) where
-  fits-kept : (c : Side) → c .node < length (s .nodes) → sideFits (s .nodes) (plainForm u c) ≡ sideFits (s .nodes) c
-  fits-kept c i = ap (sideFits (s .nodes)) (kept c i) ∙ fits-plain (s .nodes) c
-
-  plain-questions : (c : Command) → firstNo (questions h (s .nodes) (plainCommand u c)) ≡ firstNo (questions h (s .nodes) c)
-  unfolding plainCommand
-  plain-questions (Command.Leaf l) = refl
-  plain-questions (Command.Join l r) = by (ltb (l .node) (length (s .nodes))) (ltb (r .node) (length (s .nodes))) refl refl
+  same-fits : {s a : Side} → DropsSide u s a → s .node < length t → sideFits t a ≡ sideFits t s
+  same-fits kept i = refl
+  same-fits {s} (dropped p q) i = unfold sideFits in rw (p, whole-here s q i) (whole (len (nodeAt t (s .node))))
     where
-      by : (a b : Bool) → ltb (l .node) (length (s .nodes)) ≡ a → ltb (r .node) (length (s .nodes)) ≡ b
-          → firstNo (questions h (s .nodes) (Command.Join (plainForm u l) (plainForm u r))) ≡ firstNo (questions h (s .nodes) (Command.Join l r))
+      whole : (n : ℕ) → (ltb 0 n && leb 0 (n - 0)) ≡ (ltb 0 n && leb n (n - 0))
+      whole n = ap (λ (b : Bool). ltb 0 n && b) (le-leb 0 (n - 0) (omega arith) ∙ sym (le-leb n (n - 0) (omega arith)))
+
+  same-form : {s a : Side} → DropsSide u s a → s .node < length t → plainForm t a ≡ plainForm t s
+  same-form kept i = refl
+  same-form {s} (dropped p q) i =
+      let n : ℕ = len (nodeAt t (s .node)) in
+      let none : limitOver 0 0 (len (nodeAt t (s .node))) ≡ 0 = omega (arith, limit-lower 0 0 n) in
+      ap {B = Side} (λ (k : ℕ). record { node = s .node; offset = 0; limit = k }) none ∙ sym (whole-form s n p (whole-here s q i))
+
+-- ---- a command, in the state s
+
+module _ (h : Head) (capacity : ℕ) (u : List Node) (s : State) (alike : (n : ℕ) → n < length (s .nodes) → nodeAt u n ≡ nodeAt (s .nodes) n) where
+  same-questions : {c d : Command} → DropsCommand u c d → firstNo (questions h (s .nodes) d) ≡ firstNo (questions h (s .nodes) c)
+  same-questions unchanged = refl
+  same-questions (in-join {l} {r} {a} {b} x y) = by (ltb (l .node) (length (s .nodes))) (ltb (r .node) (length (s .nodes))) refl refl
+    where
+      by : (i j : Bool) → ltb (l .node) (length (s .nodes)) ≡ i → ltb (r .node) (length (s .nodes)) ≡ j
+          → firstNo (questions h (s .nodes) (Command.Join a b)) ≡ firstNo (questions h (s .nodes) (Command.Join l r))
       by true true e f =
           unfold questions in
-          rw (fits-kept l (ltb-true (l .node) (length (s .nodes)) e), fits-kept r (ltb-true (r .node) (length (s .nodes)) f))
-      by true false e f = unfold questions firstNo in rw (e, f)
-      by false b e f = unfold questions firstNo in rw e
-  plain-questions (Command.Request n v d) = refl
-  plain-questions Command.Close = refl
+          rw (
+            same-fits (s .nodes) u alike x (ltb-true (l .node) (length (s .nodes)) e),
+            same-fits (s .nodes) u alike y (ltb-true (r .node) (length (s .nodes)) f),
+            same-node (s .nodes) u alike x,
+            same-node (s .nodes) u alike y,
+          )
+      by true false e f = unfold questions firstNo in rw (same-node (s .nodes) u alike x, same-node (s .nodes) u alike y, e, f)
+      by false j e f = unfold questions firstNo in rw (same-node (s .nodes) u alike x, e)
 
-  plain-act : (c : Command) → firstNo (questions h (s .nodes) c) ≡ 0 → act (plainCommand u c) s ≡ act c s
-  unfolding plainCommand act
-  plain-act (Command.Leaf l) q = refl
-  plain-act (Command.Join l r) q =
+  same-act : {c d : Command} → DropsCommand u c d → firstNo (questions h (s .nodes) c) ≡ 0 → act d s ≡ act c s
+  unfolding act joined
+  same-act unchanged q = refl
+  same-act (in-join {l} {r} {a} {b} x y) q =
       let t = s .nodes in
       let o = s .next-variable in
       let there = join-there h t l r q in
-      let same : joined t o (plainForm u l) (plainForm u r) ≡ joined t o l r =
-      ap (λ (x : Side). joined t o x (plainForm u r)) (kept l (there .0)) ∙ ap (joined t o (plainForm t l)) (kept r (there .1)) ∙ joined-plain t o l r in
-      ap (λ (x : Node). make x (len x) s) same
-  plain-act (Command.Request n v d) q = refl
-  plain-act Command.Close q = refl
+      ap (λ (z : Node). make z (len z) s)
+      (ap (λ (z : Side). joinOf t o z (plainForm t b)) (same-form t u alike x (there .0)) ∙ ap (joinOf t o (plainForm t l)) (same-form t u alike y (there .1)))
 
-  plain-play : (c : Command) → play h capacity (plainCommand u c) s ≡ play h capacity c s
-  plain-play c = by (firstNo (questions h (s .nodes) c)) refl
+  same-play : {c d : Command} → DropsCommand u c d → play h capacity d s ≡ play h capacity c s
+  same-play {c} {d} x = by (firstNo (questions h (s .nodes) c)) refl
     where
-      by : (n : ℕ) → firstNo (questions h (s .nodes) c) ≡ n → play h capacity (plainCommand u c) s ≡ play h capacity c s
-      by zero q = unfold play in rw (plain-questions c ∙ q, q, play) (ap (fitted capacity) (plain-act c q))
-      by (suc n) q = unfold play in rw (plain-questions c ∙ q, q, play)
+      by : (n : ℕ) → firstNo (questions h (s .nodes) c) ≡ n → play h capacity d s ≡ play h capacity c s
+      by zero q = unfold play in rw (same-questions x ∙ q, q, play) (ap (fitted capacity) (same-act x q))
+      by (suc n) q = unfold play in rw (same-questions x ∙ q, q, play)
 
 -- ---- the commands as they are read
 
-closes-plain : (u : List Node) (c : Command) → closes (plainCommand u c) ≡ closes c
-unfolding plainCommand closes
-closes-plain u (Command.Leaf l) = refl
-closes-plain u (Command.Join l r) = refl
-closes-plain u (Command.Request n v d) = refl
-closes-plain u Command.Close = refl
+same-closes : {u : List Node} {c d : Command} → DropsCommand u c d → closes d ≡ closes c
+unfolding closes
+same-closes (in-join x y) = refl
+same-closes unchanged = refl
 
 reads-bytes : (ns : List ℕ) {bs rest : List ℕ} → Bytes bs → Reads bs ns rest → Bytes rest
 reads-bytes [] w k = subst Bytes (reads-nil k) w
@@ -173,71 +168,68 @@ any-bound (suc k) (suc j) closed bs w a b = by (readCommand closed bs) refl (any
 abbrev goesOn : Head → ℕ → Commands → ℕ → State → Outcome
 goesOn h capacity cs p s = plays h capacity (cs .ending) (cs .list) p s
 
+-- u is the table that the state s and the commands come to.
 module _ (h : Head) (capacity : ℕ) (u : List Node) where
-  plain-plays : (cs : List Command) (closed : Bool) (k j p : ℕ) (s : State) {bs ds rest : List ℕ} → Sound h s → u ≡ build cs (s .nodes) (s .next-variable)
-      → Bytes rest → Reads bs (flatMap commandNumbers cs) rest → Reads ds (flatMap commandNumbers (map (plainCommand u) cs)) rest
-      → length bs ≤ k → length ds ≤ j
-      → goesOn h capacity (readCommands j closed ds) p s ≡ goesOn h capacity (readCommands k closed bs) p s
+  same-plays : {cs ds : List Command} → Pointwise (DropsCommand u) cs ds → (closed : Bool) (k j p : ℕ) (s : State) {bs other rest : List ℕ} → Sound h s
+      → u ≡ build cs (s .nodes) (s .next-variable) → Bytes rest → Reads bs (flatMap commandNumbers cs) rest → Reads other (flatMap commandNumbers ds) rest
+      → length bs ≤ k → length other ≤ j
+      → goesOn h capacity (readCommands j closed other) p s ≡ goesOn h capacity (readCommands k closed bs) p s
   unfolding flatMap
-  plain-plays [] closed k j p s {bs} {ds} {rest} sound is w a b m n =
+  same-plays pointwise-nil closed k j p s {bs} {other} {rest} sound is w a b m n =
       let e : bs ≡ rest = reads-nil a in
-      let f : ds ≡ rest = reads-nil b in
+      let f : other ≡ rest = reads-nil b in
       ap (λ (x : Commands). goesOn h capacity x p s)
       (ap (readCommands j closed) f ∙ any-bound j k closed rest w (rw f at n) (rw e at m) ∙ ap (readCommands k closed) (sym e))
-  plain-plays (c ∷ cs) true k j p s {bs} {ds} {rest} sound is w a b m n =
+  same-plays (pointwise-cons {x = c} {y = d} {xs = cs} {ys = ds} x xs) true k j p s {bs} {other} sound is w a b m n =
       let e = reads-split (commandNumbers c) (flatMap commandNumbers cs) a in
-      let f = reads-split (commandNumbers (plainCommand u c)) (flatMap commandNumbers (map (plainCommand u) cs)) b in
-      ap (λ (x : Commands). goesOn h capacity x p s)
-      (read-refused j true ds 4 n (closed-code (code-stands (plainCommand u c) f .2))
-      ∙ sym (read-refused k true bs 4 m (closed-code (code-stands c e .2))))
-  plain-plays (c ∷ cs) false k j p s {bs} {ds} {rest} sound is w a b m n =
-      let d : Command = plainCommand u c in
+      let f = reads-split (commandNumbers d) (flatMap commandNumbers ds) b in
+      ap (λ (z : Commands). goesOn h capacity z p s)
+      (read-refused j true other 4 n (closed-code (code-stands d f .2)) ∙ sym (read-refused k true bs 4 m (closed-code (code-stands c e .2))))
+  same-plays (pointwise-cons {x = c} {y = d} {xs = cs} {ys = ds} x xs) false k j p s {bs} {other} {rest} sound is w a b m n =
       let e = reads-split (commandNumbers c) (flatMap commandNumbers cs) a in
-      let f = reads-split (commandNumbers (plainCommand u c)) (flatMap commandNumbers (map (plainCommand u) cs)) b in
-      let x = read-on k false bs c _ m (command-shorter c e) (reads-command {c = c} e) in
-      let y = read-on j false ds d _ n (command-shorter d f) (reads-command {c = d} f) in
-      ap (λ (z : Commands). goesOn h capacity z p s) (y .2)
+      let f = reads-split (commandNumbers d) (flatMap commandNumbers ds) b in
+      let on = read-on k false bs c _ m (command-shorter c e) (reads-command {c = c} e) in
+      let other-on = read-on j false other d _ n (command-shorter d f) (reads-command {c = d} f) in
+      ap (λ (z : Commands). goesOn h capacity z p s) (other-on .2)
       ∙ by (play h capacity c s) refl
-      (readCommands (x .0) (closes c) (flatMap encode (flatMap commandNumbers cs) ++ rest))
-      (readCommands (y .0) (closes (plainCommand u c)) (flatMap encode (flatMap commandNumbers (map (plainCommand u) cs)) ++ rest))
+      (readCommands (on .0) (closes c) (flatMap encode (flatMap commandNumbers cs) ++ rest))
+      (readCommands (other-on .0) (closes d) (flatMap encode (flatMap commandNumbers ds) ++ rest))
       (λ (v : State) (i : Sound h v) (g : u ≡ build cs (v .nodes) (v .next-variable)).
-      ap (λ (q : Bool). goesOn h capacity (readCommands (y .0) q (flatMap encode (flatMap commandNumbers (map (plainCommand u) cs)) ++ rest)) (suc p) v) (closes-plain u c)
-      ∙ plain-plays cs (closes c) (x .0) (y .0) (suc p) v i g w
-      (reads-rest (commandNumbers c) (flatMap commandNumbers cs) a)
-      (reads-rest (commandNumbers (plainCommand u c)) (flatMap commandNumbers (map (plainCommand u) cs)) b) (x .1) (y .1))
-      ∙ ap (λ (z : Commands). goesOn h capacity z p s) (sym (x .2))
+      ap (λ (q : Bool). goesOn h capacity (readCommands (other-on .0) q (flatMap encode (flatMap commandNumbers ds) ++ rest)) (suc p) v) (same-closes x)
+      ∙ same-plays xs (closes c) (on .0) (other-on .0) (suc p) v i g w (reads-rest (commandNumbers c) (flatMap commandNumbers cs) a)
+      (reads-rest (commandNumbers d) (flatMap commandNumbers ds) b) (on .1) (other-on .1))
+      ∙ ap (λ (z : Commands). goesOn h capacity z p s) (sym (on .2))
     where
-      kept : (a : Side) → a .node < length (s .nodes) → plainForm u a ≡ plainForm (s .nodes) a
-      kept a i = plain-kept (c ∷ cs) (s .nodes) (s .next-variable) is a i
+      go-same : play h capacity d s ≡ play h capacity c s
+      go-same = same-play h capacity u s (node-kept (c ∷ cs) (s .nodes) (s .next-variable) is) x
 
-      by : (r : Result) → play h capacity c s ≡ r → (xs ys : Commands)
-          → ((v : State) → Sound h v → u ≡ build cs (v .nodes) (v .next-variable) → goesOn h capacity ys (suc p) v ≡ goesOn h capacity xs (suc p) v)
-          → goesOn h capacity (before (plainCommand u c) ys) p s ≡ goesOn h capacity (before c xs) p s
-      by (accepted v) e xs ys go =
+      by : (r : Result) → play h capacity c s ≡ r → (ys zs : Commands)
+          → ((v : State) → Sound h v → u ≡ build cs (v .nodes) (v .next-variable) → goesOn h capacity zs (suc p) v ≡ goesOn h capacity ys (suc p) v)
+          → goesOn h capacity (before d zs) p s ≡ goesOn h capacity (before c ys) p s
+      by (accepted v) e ys zs go =
           let q = play-passed h capacity c s v e in
           unfold before in
-          plays-accepted h capacity (ys .ending) (plainCommand u c) (ys .list) p s v (plain-play h capacity u s kept c ∙ e)
+          plays-accepted h capacity (zs .ending) d (zs .list) p s v (go-same ∙ e)
           ∙ go v (subst (Sound h) (q .after) (sound-act h c s (q .asked) sound))
           (is ∙ sym (build-act h c cs s (q .asked) sound) ∙ ap (λ (z : State). build cs (z .nodes) (z .next-variable)) (q .after))
-          ∙ sym (plays-accepted h capacity (xs .ending) c (xs .list) p s v e)
-      by (refused i) e xs ys go =
+          ∙ sym (plays-accepted h capacity (ys .ending) c (ys .list) p s v e)
+      by (refused i) e ys zs go =
           unfold before in
-          plays-refused h capacity (ys .ending) (plainCommand u c) (ys .list) p s i (plain-play h capacity u s kept c ∙ e)
-          ∙ sym (plays-refused h capacity (xs .ending) c (xs .list) p s i e)
+          plays-refused h capacity (zs .ending) d (zs .list) p s i (go-same ∙ e) ∙ sym (plays-refused h capacity (ys .ending) c (ys .list) p s i e)
+
+  -- What accepts the others accepts these.
+  same-passed : {cs ds : List Command} {s v : State} → Pointwise (DropsCommand u) cs ds → Sound h s → u ≡ build cs (s .nodes) (s .next-variable)
+      → AllPassed h capacity ds s v → AllPassed h capacity cs s v
+  same-passed pointwise-nil sound is all-done = all-done
+  same-passed {s = s} (pointwise-cons {x = c} {y = d} {xs = cs} {ys = ds} x xs) sound is (all-more {u = w} q r) =
+      let alike = node-kept (c ∷ cs) (s .nodes) (s .next-variable) is in
+      let asked = sym (same-questions h capacity u s alike x) ∙ q .asked in
+      let after = sym (same-act h capacity u s alike x asked) ∙ q .after in
+      all-more (record { asked = asked; after = after; fits = q .fits })
+      (same-passed xs (subst (Sound h) after (sound-act h c s asked sound))
+      (is ∙ sym (build-act h c cs s asked sound) ∙ ap (λ (z : State). build cs (z .nodes) (z .next-variable)) after) r)
 
 -- ---- the bytes of the other script
-
--- A limit that is put to 0 takes one group, and took no fewer.
-module _ (f k n : ℕ) where
-  limit-code : length (encode (limitOver f k n)) ≤ length (encode k)
-  limit-code = by-limit f k n (λ m. length (encode m) ≤ length (encode k)) (λ p q. omega (arith, encode-some k, encode-length 0 1 (omega arith) .1 (omega arith))) (λ _. omega arith)
-
-  same-code : n < 128 → length (encode k) ≤ length (encode (limitOver f k n))
-  same-code h =
-      by-limit f k n (λ m. length (encode k) ≤ length (encode m)) (λ p q. omega (arith, encode-some 0, encode-length k 1 (omega arith) .1 (omega (arith, q)))) (λ _. omega arith)
-
-  limit-small : k < 128 ^ groups → limitOver f k n < 128 ^ groups
-  limit-small h = omega (arith, limit-lower f k n)
 
 -- How many bytes numbers take.
 taking : List ℕ → ℕ
@@ -249,166 +241,159 @@ unfolding taking flatMap
 taking-is [] = refl
 taking-is (n ∷ ns) = omega (arith, length-append (encode n) (flatMap encode ns), taking-is ns)
 
-module _ (u : List Node) where
-  abbrev width-of : Side → ℕ
-  width-of s = len (nodeAt u (s .node))
+-- 0 takes one byte, and so does a number below 128.
+zero-takes : length (encode 0) ≡ 1
+zero-takes = omega (arith, encode-some 0, encode-length 0 1 (omega arith) .1 (omega arith))
 
-  plain-taking : (c : Command) → taking (commandNumbers (plainCommand u c)) ≤ taking (commandNumbers c)
-  unfolding plainCommand commandNumbers taking
-  plain-taking (Command.Leaf l) = omega arith
-  plain-taking (Command.Join l r) =
-      omega (arith, limit-code (l .offset) (l .limit) (width-of l), limit-code (r .offset) (r .limit) (width-of r))
-  plain-taking (Command.Request n v d) = omega arith
-  plain-taking Command.Close = omega arith
+abbrev sideNumbers : Side → List ℕ
+sideNumbers s = s .node ∷ s .offset ∷ s .limit ∷ []
 
-  same-taking : ((n : ℕ) → len (nodeAt u n) < 128) → (c : Command) → taking (commandNumbers c) ≤ taking (commandNumbers (plainCommand u c))
-  unfolding plainCommand commandNumbers taking
-  same-taking h (Command.Leaf l) = omega arith
-  same-taking h (Command.Join l r) =
-      omega (arith, same-code (l .offset) (l .limit) (width-of l) (h (l .node)), same-code (r .offset) (r .limit) (width-of r) (h (r .node)))
-  same-taking h (Command.Request n v d) = omega arith
-  same-taking h Command.Close = omega arith
+module _ {u : List Node} where
+  side-shorter : {s a : Side} → DropsSide u s a → taking (sideNumbers a) ≤ taking (sideNumbers s)
+  unfolding taking
+  side-shorter kept = omega arith
+  side-shorter {s} (dropped p q) = omega (arith, zero-takes, encode-some (s .offset), encode-some (s .limit))
 
-  plain-small : (c : Command) → Small (commandNumbers c) → Small (commandNumbers (plainCommand u c))
-  unfolding plainCommand commandNumbers Small
-  plain-small (Command.Leaf l) k = k
-  plain-small (Command.Join l r) k =
-      let left = k .1 .1 .1 in
-      let right = left .1 .1 .1 in (
-        k .0,
-        (
-          k .1 .0,
-          (
-            k .1 .1 .0,
-            (
-              limit-small (l .offset) (l .limit) (width-of l) (left .0),
-              (left .1 .0, (left .1 .1 .0, (limit-small (r .offset) (r .limit) (width-of r) (right .0), tt))),
-            ),
-          ),
-        ),
-      )
-  plain-small (Command.Request n v d) k = k
-  plain-small Command.Close k = k
+  side-as-long : {s a : Side} → len (nodeAt u (s .node)) < 128 → DropsSide u s a → taking (sideNumbers s) ≤ taking (sideNumbers a)
+  unfolding taking
+  side-as-long h kept = omega arith
+  side-as-long {s} h (dropped p q) =
+      omega (arith, zero-takes, encode-length (s .offset) 1 (omega arith) .1 (omega (arith, p)), encode-length (s .limit) 1 (omega arith) .1 (omega (arith, q)))
 
-  -- All the commands.
-  abbrev codeLength : List Command → ℕ
-  codeLength cs = length (flatMap encode (flatMap commandNumbers cs))
+  side-small : {s a : Side} → DropsSide u s a → Small (sideNumbers s) → Small (sideNumbers a)
+  unfolding Small
+  side-small kept k = k
+  side-small (dropped p q) k = (k .0, (omega arith, (omega arith, tt)))
 
-  code-cons : (c : Command) (cs : List Command) → codeLength (c ∷ cs) ≡ taking (commandNumbers c) + codeLength cs
-  code-cons c cs =
-      omega (arith, ap length (bytes-cons c cs), length-append (flatMap encode (commandNumbers c)) (flatMap encode (flatMap commandNumbers cs)), taking-is (commandNumbers c))
+  command-shorter-than : {c d : Command} → DropsCommand u c d → taking (commandNumbers d) ≤ taking (commandNumbers c)
+  unfolding commandNumbers taking
+  command-shorter-than unchanged = omega arith
+  command-shorter-than (in-join x y) = omega (arith, side-shorter x, side-shorter y)
 
-  plain-length : (cs : List Command) → codeLength (map (plainCommand u) cs) ≤ codeLength cs
-  plain-length [] = omega arith
-  plain-length (c ∷ cs) =
-      omega (arith, code-cons c cs, code-cons (plainCommand u c) (map (plainCommand u) cs), plain-taking c, plain-length cs)
+  command-as-long : {c d : Command} → ((n : ℕ) → len (nodeAt u n) < 128) → DropsCommand u c d → taking (commandNumbers c) ≤ taking (commandNumbers d)
+  unfolding commandNumbers taking
+  command-as-long h unchanged = omega arith
+  command-as-long h (in-join {l} {r} x y) = omega (arith, side-as-long (h (l .node)) x, side-as-long (h (r .node)) y)
 
-  same-length : ((n : ℕ) → len (nodeAt u n) < 128) → (cs : List Command) → codeLength cs ≤ codeLength (map (plainCommand u) cs)
-  same-length h [] = omega arith
-  same-length h (c ∷ cs) =
-      omega (arith, code-cons c cs, code-cons (plainCommand u c) (map (plainCommand u) cs), same-taking h c, same-length h cs)
+  command-small : {c d : Command} → DropsCommand u c d → Small (commandNumbers c) → Small (commandNumbers d)
+  unfolding commandNumbers Small
+  command-small unchanged k = k
+  command-small (in-join {l} {r} {a} {b} x y) k =
+      let p = small-split (sideNumbers l) (sideNumbers r) (k .1) in
+      (k .0, small-join (sideNumbers a) (sideNumbers b) (side-small x (p .0)) (side-small y (p .1)))
 
-  all-small : (cs : List Command) → Small (flatMap commandNumbers cs) → Small (flatMap commandNumbers (map (plainCommand u) cs))
+abbrev codeLength : List Command → ℕ
+codeLength cs = length (flatMap encode (flatMap commandNumbers cs))
+
+code-cons : (c : Command) (cs : List Command) → codeLength (c ∷ cs) ≡ taking (commandNumbers c) + codeLength cs
+code-cons c cs =
+    omega (
+      arith,
+      ap length (bytes-cons c cs),
+      length-append (flatMap encode (commandNumbers c)) (flatMap encode (flatMap commandNumbers cs)),
+      taking-is (commandNumbers c),
+    )
+
+module _ {u : List Node} where
+  all-shorter : {cs ds : List Command} → Pointwise (DropsCommand u) cs ds → codeLength ds ≤ codeLength cs
+  all-shorter pointwise-nil = omega arith
+  all-shorter (pointwise-cons {x = c} {y = d} {xs = cs} {ys = ds} x xs) = omega (arith, code-cons c cs, code-cons d ds, command-shorter-than x, all-shorter xs)
+
+  all-as-long : {cs ds : List Command} → ((n : ℕ) → len (nodeAt u n) < 128) → Pointwise (DropsCommand u) cs ds → codeLength cs ≤ codeLength ds
+  all-as-long h pointwise-nil = omega arith
+  all-as-long h (pointwise-cons {x = c} {y = d} {xs = cs} {ys = ds} x xs) =
+      omega (arith, code-cons c cs, code-cons d ds, command-as-long h x, all-as-long h xs)
+
+  all-small : {cs ds : List Command} → Pointwise (DropsCommand u) cs ds → Small (flatMap commandNumbers cs) → Small (flatMap commandNumbers ds)
   unfolding flatMap
-  all-small [] k = k
-  all-small (c ∷ cs) k =
+  all-small pointwise-nil k = k
+  all-small (pointwise-cons {x = c} {y = d} {xs = cs} {ys = ds} x xs) k =
       let p = small-split (commandNumbers c) (flatMap commandNumbers cs) k in
-      small-join (commandNumbers (plainCommand u c)) (flatMap commandNumbers (map (plainCommand u) cs)) (plain-small c (p .0)) (all-small cs (p .1))
+      small-join (commandNumbers d) (flatMap commandNumbers ds) (command-small x (p .0)) (all-small xs (p .1))
 
 -- ---- the claim
 
-module _ {bs rest : List ℕ} (h : Head) (cs : List Command) (k : Begins bs h cs rest) where
-  abbrev head-length : ℕ
-  head-length = length (flatMap encode (h .variable ∷ h .step ∷ []))
+whole-length : {bs : List ℕ} (rest : List ℕ) (h : Head) (cs : List Command) → bs ≡ scriptBytes h cs ++ rest
+    → length bs ≡ length (flatMap encode (h .variable ∷ h .step ∷ [])) + codeLength cs + length rest
+unfolding scriptBytes
+whole-length rest h cs e =
+    let ns : List ℕ = flatMap commandNumbers cs in
+    omega (
+      arith,
+      ap length e,
+      length-append (flatMap encode (h .variable ∷ h .step ∷ ns)) rest,
+      ap length (flatMap-append encode (h .variable ∷ h .step ∷ []) ns),
+      length-append (flatMap encode (h .variable ∷ h .step ∷ [])) (flatMap encode ns),
+    )
 
-  plain-begins : Begins (plainBytes h cs rest) h (plainCommands h cs) rest
-  unfolding scriptBytes plainCommands Small
-  plain-begins =
-      let s = short-small (h .variable ∷ h .step ∷ flatMap commandNumbers cs) (k .short) in
-      record {
-        coded = refl;
-        short = small-short (h .variable ∷ h .step ∷ flatMap commandNumbers (plainCommands h cs)) (s .0, (s .1 .0, all-small (table h cs) cs (s .1 .1)));
-      }
-
-  whole-length : (ds : List Command) → length (scriptBytes h ds ++ rest) ≡ head-length + length (flatMap encode (flatMap commandNumbers ds)) + length rest
+module _ {bs other rest : List ℕ} (h : Head) (cs ds : List Command) (o : Others bs other rest h cs ds) where
+  own-bytes : bs ≡ scriptBytes h cs ++ rest
   unfolding scriptBytes
-  whole-length ds =
-      let ns : List ℕ = flatMap commandNumbers ds in
-      omega (
-        arith,
-        length-append (flatMap encode (h .variable ∷ h .step ∷ ns)) rest,
-        ap length (flatMap-append encode (h .variable ∷ h .step ∷ []) ns),
-        length-append (flatMap encode (h .variable ∷ h .step ∷ [])) (flatMap encode ns),
-      )
+  own-bytes = o .begins .coded
 
-  own-length : length bs ≡ length (scriptBytes h cs ++ rest)
+  other-begins : Begins other h ds rest
+  unfolding scriptBytes Small
+  other-begins =
+      let s = short-small (h .variable ∷ h .step ∷ flatMap commandNumbers cs) (o .begins .short) in
+      record { coded = o .is; short = small-short (h .variable ∷ h .step ∷ flatMap commandNumbers ds) (s .0, (s .1 .0, all-small (o .drops) (s .1 .1))) }
+
+  other-bytes : Bytes bs → Bytes other
   unfolding scriptBytes
-  own-length = ap length (k .coded)
+  other-bytes w =
+      subst Bytes (sym (o .is))
+      (numbers-bytes (h .variable ∷ h .step ∷ flatMap commandNumbers ds) rest
+      (reads-bytes (h .variable ∷ h .step ∷ flatMap commandNumbers cs) w (o .begins)))
 
-  plain-no-longer : length (plainBytes h cs rest) ≤ length bs
-  unfolding plainCommands
-  plain-no-longer = omega (arith, own-length, whole-length cs, whole-length (plainCommands h cs), plain-length (table h cs) cs)
+  other-shorter : length other ≤ length bs
+  other-shorter = omega (arith, whole-length rest h cs own-bytes, whole-length rest h ds (o .is), all-shorter (o .drops))
 
-  plain-as-long : ((n : ℕ) → len (nodeAt (table h cs) n) < 128) → length (plainBytes h cs rest) ≡ length bs
-  unfolding plainCommands
-  plain-as-long short =
-      omega (arith, plain-no-longer, own-length, whole-length cs, whole-length (plainCommands h cs), same-length (table h cs) short cs)
+  other-as-long : ((n : ℕ) → len (nodeAt (table h cs) n) < 128) → length other ≡ length bs
+  other-as-long short = omega (arith, other-shorter, whole-length rest h cs own-bytes, whole-length rest h ds (o .is), all-as-long short (o .drops))
 
-  plain-bytes : Bytes bs → Bytes (plainBytes h cs rest)
-  unfolding scriptBytes
-  plain-bytes w =
-      numbers-bytes (h .variable ∷ h .step ∷ flatMap commandNumbers (plainCommands h cs)) rest (reads-bytes (h .variable ∷ h .step ∷ flatMap commandNumbers cs) w k)
+  first-table : table h cs ≡ build cs (start h .nodes) (start h .next-variable)
+  unfolding table start
+  first-table = refl
 
-  module _ (w : Bytes bs) (short : length bs ≤ 65536) (capacity : ℕ) where
-    abbrev own-rest : List ℕ
-    own-rest = flatMap encode (flatMap commandNumbers cs) ++ rest
+  module _ (w : Bytes bs) (capacity : ℕ) where
+    abbrev rest-of : List Command → List ℕ
+    rest-of es = flatMap encode (flatMap commandNumbers es) ++ rest
 
-    abbrev plain-rest : List ℕ
-    plain-rest = flatMap encode (flatMap commandNumbers (plainCommands h cs)) ++ rest
+    abbrev read-of : List Command → Commands
+    read-of es = readCommands (length (rest-of es)) false (rest-of es)
 
-    abbrev own-commands : Commands
-    own-commands = readCommands (length own-rest) false own-rest
+    own-script : readScript bs ≡ script h (read-of cs)
+    own-script = head-script h (reads-split (h .variable ∷ h .step ∷ []) (flatMap commandNumbers cs) (o .begins))
 
-    abbrev plain-commands : Commands
-    plain-commands = readCommands (length plain-rest) false plain-rest
+    other-script : readScript other ≡ script h (read-of ds)
+    other-script = head-script h (reads-split (h .variable ∷ h .step ∷ []) (flatMap commandNumbers ds) other-begins)
 
-    own-script : readScript bs ≡ script h own-commands
-    own-script = head-script h (reads-split (h .variable ∷ h .step ∷ []) (flatMap commandNumbers cs) k)
+    go-on-same : goesOn h capacity (read-of ds) 0 (start h) ≡ goesOn h capacity (read-of cs) 0 (start h)
+    go-on-same =
+        same-plays h capacity (table h cs) (o .drops) false (length (rest-of cs)) (length (rest-of ds)) 0 (start h) (sound-start h) first-table
+        (reads-bytes (h .variable ∷ h .step ∷ flatMap commandNumbers cs) w (o .begins))
+        (reads-rest (h .variable ∷ h .step ∷ []) (flatMap commandNumbers cs) (o .begins))
+        (reads-rest (h .variable ∷ h .step ∷ []) (flatMap commandNumbers ds) other-begins) (omega arith) (omega arith)
 
-    plain-script : readScript (plainBytes h cs rest) ≡ script h plain-commands
-    plain-script = head-script h (reads-split (h .variable ∷ h .step ∷ []) (flatMap commandNumbers (plainCommands h cs)) plain-begins)
-
-    first-table : table h cs ≡ build cs (start h .nodes) (start h .next-variable)
-    unfolding table start
-    first-table = refl
-
-    play-on : goesOn h capacity plain-commands 0 (start h) ≡ goesOn h capacity own-commands 0 (start h)
-    unfolding plainCommands
-    play-on =
-        plain-plays h capacity (table h cs) cs false (length own-rest) (length plain-rest) 0 (start h) (sound-start h) first-table
-        (reads-bytes (h .variable ∷ h .step ∷ flatMap commandNumbers cs) w k)
-        (reads-rest (h .variable ∷ h .step ∷ []) (flatMap commandNumbers cs) k)
-        (reads-rest (h .variable ∷ h .step ∷ []) (flatMap commandNumbers (plainCommands h cs)) plain-begins) (omega arith) (omega arith)
-
-    scripts-same : playScript capacity (script h plain-commands) ≡ playScript capacity (script h own-commands)
+    scripts-same : playScript capacity (script h (read-of ds)) ≡ playScript capacity (script h (read-of cs))
     scripts-same = by (headFits h) refl
       where
-        by : (b : Bool) → headFits h ≡ b → playScript capacity (script h plain-commands) ≡ playScript capacity (script h own-commands)
-        by true e = script-true capacity h plain-commands e ∙ play-on ∙ sym (script-true capacity h own-commands e)
-        by false e = script-false capacity h plain-commands e ∙ sym (script-false capacity h own-commands e)
+        by : (b : Bool) → headFits h ≡ b → playScript capacity (script h (read-of ds)) ≡ playScript capacity (script h (read-of cs))
+        by true e = script-true capacity h (read-of ds) e ∙ go-on-same ∙ sym (script-true capacity h (read-of cs) e)
+        by false e = script-false capacity h (read-of ds) e ∙ sym (script-false capacity h (read-of cs) e)
 
-    played-same : played (plainBytes h cs rest) capacity ≡ played bs capacity
-    played-same = by (decLe capacity 65536)
+    one-refuses : (65536 < length other) ⊎ (65536 < capacity) → (65536 < length bs) ⊎ (65536 < capacity) → played other capacity ≡ played bs capacity
+    one-refuses i j =
+        played-false capacity other (answered-no (sizes other capacity) i) ∙ sym (played-false capacity bs (answered-no (sizes bs capacity) j))
+
+    played-same : (length other ≤ 65536 → length bs ≤ 65536) → played other capacity ≡ played bs capacity
+    played-same alike = by (decLe (length other) 65536) (decLe capacity 65536)
       where
-        by : Dec (capacity ≤ 65536) → played (plainBytes h cs rest) capacity ≡ played bs capacity
-        by (yes l) =
-            played-true capacity (plainBytes h cs rest) (sized (plainBytes h cs rest) capacity (omega (arith, plain-no-longer)) l)
-            ∙ ap (playScript capacity) plain-script ∙ scripts-same ∙ sym (ap (playScript capacity) own-script)
-            ∙ sym (played-true capacity bs (sized bs capacity short l))
-        by (no l) =
-            let over : 65536 < capacity = omega (arith, l) in
-            played-false capacity (plainBytes h cs rest) (answered-no (sizes (plainBytes h cs rest) capacity) (inr over))
-            ∙ sym (played-false capacity bs (answered-no (sizes bs capacity) (inr over)))
+        by : Dec (length other ≤ 65536) → Dec (capacity ≤ 65536) → played other capacity ≡ played bs capacity
+        by (yes i) (yes j) =
+            played-true capacity other (sized other capacity i j) ∙ ap (playScript capacity) other-script ∙ scripts-same
+            ∙ sym (ap (playScript capacity) own-script) ∙ sym (played-true capacity bs (sized bs capacity (alike i) j))
+        by (no i) d = one-refuses (inl (omega (arith, i))) (inl (omega (arith, i, other-shorter)))
+        by (yes i) (no j) = one-refuses (inr (omega (arith, j))) (inr (omega (arith, j)))
 
 -- Past its last node a table has none of more than 64 values either.
 none-short : (t : List Node) (n : ℕ) → length t ≤ n → len (nodeAt t n) < 128
@@ -416,37 +401,33 @@ unfolding nodeAt len leaves
 none-short t n h = rw (List·getD-eq-default t (leaf 0) h) (omega arith)
 
 -- A table of accepted commands has no node of more than 64 values.
-reached-short : {bs rest : List ℕ} {capacity : ℕ} {h : Head} {cs : List Command} {s : State} → Reached bs capacity h cs s rest
+passed-short : {capacity : ℕ} {h : Head} {cs : List Command} {s : State} → headFits h ≡ true → AllPassed h capacity cs (start h) s
     → (n : ℕ) → len (nodeAt (table h cs) n) < 128
-reached-short {capacity = capacity} {h = h} {cs = cs} {s = s} r n = by (decLe (length (s .nodes)) n)
+passed-short {capacity} {h} {cs} {s} fits all n = by (decLe (length (s .nodes)) n)
   where
-    all : AllPassed h capacity cs (start h) s
-    all = reached-all r .3
-
     is : s .nodes ≡ table h cs
     is = nodes-table h capacity cs s all
 
-    each : (n : ℕ) → n < length (s .nodes) → len (nodeAt (s .nodes) n) ≤ 64
-    each = all-formed all (formed-start h (reached-all r .2)) .treed .each
-
     by : Dec (length (s .nodes) ≤ n) → len (nodeAt (table h cs) n) < 128
     by (yes l) = rw (sym is) (none-short (s .nodes) n l)
-    by (no l) = rw (sym is) (omega (arith, each n (omega (arith, l))))
+    by (no l) = rw (sym is) (omega (arith, all-formed all (formed-start h fits) .treed .each n (omega (arith, l))))
 
-accepted-same : {bs : List ℕ} (c : ℕ) (h : Head) (cs : List Command) → IsScript bs h cs → Bytes bs → played bs c .number ≡ 0
-    → played (plainBytes h cs []) c ≡ played bs c
-accepted-same c h cs i w e = played-same h cs i w (reached-all (accepted-reached w i e .1) .0) c
+reached-as-long : {bs other rest : List ℕ} {capacity : ℕ} {h : Head} {cs ds : List Command} {s : State} → Others bs other rest h cs ds
+    → Reached bs capacity h cs s rest ⊎ Reached other capacity h ds s rest → length other ≡ length bs
+reached-as-long {bs} {other} {rest} {capacity} {h} {cs} {ds} {s} o r = other-as-long h cs ds o (⊎-elim own others r)
+  where
+    own : Reached bs capacity h cs s rest → (n : ℕ) → len (nodeAt (table h cs) n) < 128
+    own r = let a = reached-all r in passed-short (a .2) (a .3)
+
+    others : Reached other capacity h ds s rest → (n : ℕ) → len (nodeAt (table h cs) n) < 128
+    others r =
+        let a = reached-all r in
+        passed-short (a .2) (same-passed h capacity (table h cs) (o .drops) (sound-start h) (first-table h cs ds o) (a .3))
 
 pub hides-nothing : HidesNothing
 hides-nothing = record {
-  joins-as = joins-as;
-  begins = λ bs rest h cs w k. (plain-bytes h cs k w, plain-begins h cs k);
-  same = λ bs rest capacity h cs w k short. played-same h cs k w short capacity;
-  no-longer = λ bs rest h cs k. plain-no-longer h cs k;
-  as-long = λ bs rest capacity h cs s w r. plain-as-long h cs (reached-reads r) (reached-short r);
-  orders = λ bs ds c d h cs es w v i j a.
-      let m = accepted-same c h cs i w (a .accepted-both .0) in
-      let n = accepted-same d h es j v (a .accepted-both .1) in
-      unfold Demand3 in rw (sym m, sym n) (demand-3 (plainBytes h cs []) (plainBytes h es []) c d h (plainCommands h cs) (plainCommands h es)
-      (plain-bytes h cs i w) (plain-bytes h es j v) (rw (m, n) a));
+  begins = λ bs other rest h cs ds w o. (other-bytes h cs ds o w, other-begins h cs ds o);
+  same = λ bs other rest capacity h cs ds w o alike. played-same h cs ds o w capacity (λ l. omega (arith, alike l));
+  no-longer = λ bs other rest h cs ds o. omega (arith, other-shorter h cs ds o);
+  as-long = λ bs other rest capacity h cs ds s o r. omega (arith, reached-as-long o r);
 }

@@ -1,7 +1,7 @@
 -- Scripts that meet the hypotheses of the demands: one tree, its requests in two orders and places, one repeated and closed, each with its own log.
 use mathlib.Core.Path.{_≡_, refl, sym, subst}
-use mathlib.Core.Logic.{inr, ⊎-elim}
-use mathlib.Core.List.{List, [], _∷_, _++_, flatMap, List·Memᴰ, List·Memᴰ·head, List·Memᴰ·tail, List·Memᴰ·cases-cons, List·Memᴰ·not-nil, List·Memᴰ·eq-of-singleton}
+use mathlib.Core.Logic.{inl, inr, ⊎-elim}
+use mathlib.Core.List.{List, [], _∷_, flatMap, List·Memᴰ, List·Memᴰ·head, List·Memᴰ·tail, List·Memᴰ·cases-cons, List·Memᴰ·not-nil}
 use Prim.Native.Nat.{ℕ, zero, suc, _≤_}
 use native.Mathlib.Omega.{arith}
 use Rattle.number.specs.Number.{Bytes, readIn, above}
@@ -13,10 +13,11 @@ use Rattle.totdb.specs.declared.Side.{Side}
 use Rattle.cert.specs.Definitions.{if, only-if}
 use Rattle.cert.specs.Requests.{Request, request}
 use Rattle.cert.specs.State.{Head, State, start}
-use Rattle.player.specs.Called.{makes, plainCommands}
+use Rattle.player.specs.Accepted.{pointwise-nil, pointwise-cons}
+use Rattle.player.specs.Called.{makes, table}
 use Rattle.player.specs.Player.{act, played}
 use Rattle.player.specs.Script.{commandNumbers, scriptBytes}
-use Rattle.player.specs.Verdict.{IsScript, Reached, at-head}
+use Rattle.player.specs.Verdict.{Reached, at-head}
 use Rattle.player.specs.declared.Command.{Command}
 use Rattle.player.proofs.Runs.{asked, asked-from, asked-has}
 use Rattle.player.proofs.Accepted.{areShort, script-tested, accepted-reached}
@@ -26,7 +27,7 @@ use Rattle.player.proofs.Judged.{verdict-of}
 use Rattle.demands.specs.Demands.{Alike, Meets1, Meets2, Meets3, Demand1, Demand3}
 use Rattle.demands.specs.Needed.{Acts, NoneUndefined}
 use Rattle.demands.specs.Fields.{FifthGroup, RefusedBy}
-use Rattle.demands.specs.Windows.{plainBytes}
+use Rattle.demands.specs.Windows.{dropped, kept, in-join, unchanged, Others}
 use Rattle.demands.proofs.Demand1.{demand-1}
 use Rattle.demands.proofs.Demand2.{demand-2}
 use Rattle.demands.proofs.Demand3.{demand-3}
@@ -81,13 +82,6 @@ three a b c x =
       λ m. ⊎-elim (λ e. subst (λ (y : Request). List·Memᴰ y (a ∷ b ∷ c ∷ [])) (sym e) k) (of-three (λ (y : Request). List·Memᴰ y (a ∷ b ∷ c ∷ [])) j i j x)
           (List·Memᴰ·cases-cons m),
     )
-
-two : (a b : Request) → SameMembers (a ∷ b ∷ []) (b ∷ a ∷ [])
-two a b x = (swapped a b x, swapped b a x)
-  where
-    swapped : (a b x : Request) → List·Memᴰ x (a ∷ b ∷ []) → List·Memᴰ x (b ∷ a ∷ [])
-    swapped a b x m =
-        ⊎-elim (λ e. List·Memᴰ·tail (List·Memᴰ·head e)) (λ i. List·Memᴰ·head (List·Memᴰ·eq-of-singleton i)) (List·Memᴰ·cases-cons m)
 
 pub first-bytes : Bytes first
 unfolding first areBytes
@@ -186,115 +180,78 @@ long-literal =
     (at-head (omega arith) (omega arith) (cons-reads w refl (cons-reads u refl (nil-reads (1 ∷ long)))) (omega arith) (omega arith) (omega arith))
     (cons-reads here refl (nil-reads long)) (1 ∷ 0 ∷ [], Command.Leaf 0, 0, [], cons-reads leaf refl (cons-reads literal refl (nil-reads [])), refl) (λ _ m. List·Memᴰ·not-nil m) long-fifth
 
--- Document 02, §3. Four leaves; node 4 joins the first, whole, and the second; node 5 that, whole, and the third, whole; node 6 the last two of node 5's
--- three, which is a window, and the fourth, whole. Of node 6 value 1, if; of node 5 value 3, only-if; a close.
-unfoldable pub whole : List ℕ
-whole =
+-- Document 02, §3. Four leaves; node 4 joins the first, with its full limit, and the second; node 5 that and the third, both with full limits; node 6 the
+-- last two of node 5's three, which is a window, and the fourth, with its full limit. Of node 6 value 1, if; of node 5 value 3, only-if; a close.
+unfoldable pub full-limits : List ℕ
+full-limits =
     4 ∷ 1 ∷ 1 ∷ 0 ∷ 1 ∷ 2 ∷ 1 ∷ 5 ∷ 1 ∷ 7 ∷ 2 ∷ 0 ∷ 0 ∷ 1 ∷ 1 ∷ 0 ∷ 0 ∷ 2 ∷ 4 ∷ 0 ∷ 2 ∷ 2 ∷ 0 ∷ 1 ∷ 2 ∷ 5 ∷ 1 ∷ 2 ∷ 3 ∷ 0 ∷ 1 ∷
     3 ∷ 6 ∷ 1 ∷ 1 ∷ 3 ∷ 5 ∷ 3 ∷ 2 ∷ 4 ∷ []
 
--- The same with limit 0 for each limit that hides nothing.
-unfoldable pub limitless : List ℕ
-limitless =
+-- The same with limit 0 for each.
+unfoldable pub no-limits : List ℕ
+no-limits =
     4 ∷ 1 ∷ 1 ∷ 0 ∷ 1 ∷ 2 ∷ 1 ∷ 5 ∷ 1 ∷ 7 ∷ 2 ∷ 0 ∷ 0 ∷ 0 ∷ 1 ∷ 0 ∷ 0 ∷ 2 ∷ 4 ∷ 0 ∷ 0 ∷ 2 ∷ 0 ∷ 0 ∷ 2 ∷ 5 ∷ 1 ∷ 2 ∷ 3 ∷ 0 ∷ 0 ∷
     3 ∷ 6 ∷ 1 ∷ 1 ∷ 3 ∷ 5 ∷ 3 ∷ 2 ∷ 4 ∷ []
 
--- Another with the same counters: other limits that hide nothing, the requests in the other order, no close.
-unfoldable pub turned : List ℕ
-turned =
-    4 ∷ 1 ∷ 1 ∷ 0 ∷ 1 ∷ 2 ∷ 1 ∷ 5 ∷ 1 ∷ 7 ∷ 2 ∷ 0 ∷ 0 ∷ 0 ∷ 1 ∷ 0 ∷ 1 ∷ 2 ∷ 4 ∷ 0 ∷ 2 ∷ 2 ∷ 0 ∷ 0 ∷ 3 ∷ 5 ∷ 3 ∷ 2 ∷ 2 ∷ 5 ∷ 1 ∷ 2 ∷ 3 ∷ 0 ∷ 0 ∷
-    3 ∷ 6 ∷ 1 ∷ 1 ∷ []
+unfoldable limited-to : ℕ → ℕ → Side
+limited-to k n = record { node = n; offset = 0; limit = k }
 
-unfoldable side : ℕ → ℕ → Side
-side n k = record { node = n; offset = 0; limit = k }
+-- The commands with these limits of the first node, of node 4, of the third and of the fourth.
+unfoldable pub limits : ℕ → ℕ → ℕ → ℕ → List Command
+unfolding limited-to plain
+limits a b c d =
+    Command.Leaf 0 ∷ Command.Leaf 2 ∷ Command.Leaf 5 ∷ Command.Leaf 7 ∷ Command.Join (limited-to a 0) (plain 1)
+    ∷ Command.Join (limited-to b 4) (limited-to c 2) ∷ Command.Join (record { node = 5; offset = 1; limit = 2 }) (limited-to d 3)
+    ∷ Command.Request 6 1 1 ∷ Command.Request 5 3 2 ∷ Command.Close ∷ []
 
--- The tree with these limits, and these commands before and after its last join.
-unfoldable limits : ℕ → ℕ → ℕ → ℕ → ℕ → List Command → List Command → List Command
-unfolding side
-limits a b c d e before after =
-    Command.Leaf 0 ∷ Command.Leaf 2 ∷ Command.Leaf 5 ∷ Command.Leaf 7 ∷ Command.Join (side 0 a) (side 1 b) ∷ Command.Join (side 4 c) (side 2 d)
-    ∷ (before ++ (Command.Join (record { node = 5; offset = 1; limit = 2 }) (side 3 e) ∷ after))
+pub full-bytes : Bytes full-limits
+unfolding full-limits areBytes
+full-bytes = bytes-tested full-limits refl
 
-unfoldable pub whole-commands : List Command
-unfolding limits
-whole-commands = limits 1 0 2 1 1 [] (Command.Request 6 1 1 ∷ Command.Request 5 3 2 ∷ Command.Close ∷ [])
-
-unfoldable pub turned-commands : List Command
-unfolding limits
-turned-commands = limits 0 1 2 0 0 (Command.Request 5 3 2 ∷ []) (Command.Request 6 1 1 ∷ [])
-
-pub whole-bytes : Bytes whole
-unfolding whole areBytes
-whole-bytes = bytes-tested whole refl
-
-pub whole-script : IsScript whole head whole-commands
-unfolding whole head whole-commands areShort scriptBytes commandNumbers flatMap
-whole-script = script-tested whole head whole-commands refl refl
-
-pub limitless-is : plainBytes head whole-commands [] ≡ limitless
-unfolding limitless head whole-commands plainCommands scriptBytes
-limitless-is = refl
-
-pub whole-same : played limitless 600 ≡ played whole 600
-unfolding whole
-whole-same =
-    subst (λ (bs : List ℕ). played bs 600 ≡ played whole 600) limitless-is
-    (hides-nothing .same whole [] 600 head whole-commands whole-bytes whole-script (omega arith))
-
-pub whole-reached : (s : State) × Reached whole 600 head whole-commands s []
-unfolding whole played
-whole-reached = accepted-reached whole-bytes whole-script refl
-
-pub whole-long : length (plainBytes head whole-commands []) ≡ length whole
-whole-long = hides-nothing .as-long whole [] 600 head whole-commands (whole-reached .0) whole-bytes (whole-reached .1)
-
--- A limit that hides nothing in a command that is refused, and bytes that do not read after it: the join of a leaf, whole, with itself.
-unfoldable pub cut : List ℕ
-cut = 2 ∷ 1 ∷ 1 ∷ 0 ∷ 2 ∷ 0 ∷ 0 ∷ 1 ∷ 0 ∷ 0 ∷ 0 ∷ 0x80 ∷ []
-
-unfoldable cut-head : Head
-cut-head = record { variable = 2; step = 1 }
-
-unfoldable cut-commands : List Command
-unfolding side
-cut-commands = Command.Leaf 0 ∷ Command.Join (side 0 1) (side 0 0) ∷ []
-
-pub cut-refused : played cut 46 .number ≡ 9
-unfolding cut played
-cut-refused = refl
-
-pub cut-same : played (2 ∷ 1 ∷ 1 ∷ 0 ∷ 2 ∷ 0 ∷ 0 ∷ 0 ∷ 0 ∷ 0 ∷ 0 ∷ 0x80 ∷ []) 46 ≡ played cut 46
-unfolding cut cut-head cut-commands areBytes areShort scriptBytes commandNumbers plainCommands flatMap
-cut-same =
-    hides-nothing .same cut (0x80 ∷ []) 46 cut-head cut-commands (bytes-tested cut refl)
-    (reads-more (script-tested (2 ∷ 1 ∷ 1 ∷ 0 ∷ 2 ∷ 0 ∷ 0 ∷ 1 ∷ 0 ∷ 0 ∷ 0 ∷ []) cut-head cut-commands refl refl) (0x80 ∷ [])) (omega arith)
-
--- Demand 3 of the first and of the other with the same counters.
-pub turned-bytes : Bytes turned
-unfolding turned areBytes
-turned-bytes = bytes-tested turned refl
-
-pub turned-script : IsScript turned head turned-commands
-unfolding turned head turned-commands areShort scriptBytes commandNumbers flatMap
-turned-script = script-tested turned head turned-commands refl refl
-
-pub same-counters : Alike (plainBytes head whole-commands []) (plainBytes head turned-commands []) (played whole 600) (played turned 700) head
-    (plainCommands head whole-commands) (plainCommands head turned-commands)
-unfolding whole turned head whole-commands turned-commands plainCommands areShort scriptBytes commandNumbers flatMap played makes asked
-same-counters = record {
-  one-head = (
-    script-tested (plainBytes head whole-commands []) head (plainCommands head whole-commands) refl refl,
-    script-tested (plainBytes head turned-commands []) head (plainCommands head turned-commands) refl refl,
-  );
-  accepted-both = (refl, refl);
-  same-makes = refl;
-  same-asked = λ x.
-      let same = two (request 6 1 if) (request 5 3 only-if) x in (
-        λ a. asked-from (plainCommands head turned-commands) x (same .0 (asked-has (plainCommands head whole-commands) x a)),
-        λ a. asked-from (plainCommands head whole-commands) x (same .1 (asked-has (plainCommands head turned-commands) x a)),
-      );
+pub limits-dropped : Others full-limits no-limits [] head (limits 1 2 1 1) (limits 0 0 0 0)
+unfolding full-limits no-limits head limits areShort scriptBytes commandNumbers flatMap table
+limits-dropped = record {
+  begins = script-tested full-limits head (limits 1 2 1 1) refl refl;
+  drops =
+      pointwise-cons unchanged (pointwise-cons unchanged (pointwise-cons unchanged (pointwise-cons unchanged
+      (pointwise-cons (in-join (dropped refl refl) kept) (pointwise-cons (in-join (dropped refl refl) (dropped refl refl))
+      (pointwise-cons (in-join kept (dropped refl refl)) (pointwise-cons unchanged (pointwise-cons unchanged
+      (pointwise-cons unchanged pointwise-nil)))))))));
+  is = refl;
 }
 
-pub turned-matched : Meets3 head (plainCommands head whole-commands) (plainCommands head turned-commands) (played whole 600) (played turned 700)
-turned-matched =
-    hides-nothing .orders whole turned 600 700 head whole-commands turned-commands whole-bytes turned-bytes whole-script turned-script same-counters
+pub same-log : played no-limits 600 ≡ played full-limits 600
+unfolding full-limits
+same-log = hides-nothing .same full-limits no-limits [] 600 head (limits 1 2 1 1) (limits 0 0 0 0) full-bytes limits-dropped (λ _. omega arith)
+
+pub same-length : length no-limits ≡ length full-limits
+same-length =
+    let r = accepted-reached full-bytes (limits-dropped .begins) accepted in
+    hides-nothing .as-long full-limits no-limits [] 600 head (limits 1 2 1 1) (limits 0 0 0 0) (r .0) limits-dropped (inl (r .1))
+  where
+    accepted : played full-limits 600 .number ≡ 0
+    accepted = unfold full-limits played in refl
+
+-- In a command that is refused, with a byte that does not read after it: the join of a leaf, with its full limit, and the same leaf.
+unfoldable pub refused : List ℕ
+refused = 2 ∷ 1 ∷ 1 ∷ 0 ∷ 2 ∷ 0 ∷ 0 ∷ 1 ∷ 0 ∷ 0 ∷ 0 ∷ 0x80 ∷ []
+
+unfoldable pub refused-too : List ℕ
+refused-too = 2 ∷ 1 ∷ 1 ∷ 0 ∷ 2 ∷ 0 ∷ 0 ∷ 0 ∷ 0 ∷ 0 ∷ 0 ∷ 0x80 ∷ []
+
+unfoldable leaf-twice : ℕ → List Command
+unfolding limited-to plain
+leaf-twice k = Command.Leaf 0 ∷ Command.Join (limited-to k 0) (plain 0) ∷ []
+
+pub same-refusal : (played refused 46 .number ≡ 9) × (played refused-too 46 ≡ played refused 46)
+unfolding refused refused-too leaf-twice played areBytes areShort scriptBytes commandNumbers flatMap table
+same-refusal =
+    let h : Head = record { variable = 2; step = 1 } in (
+      refl,
+      hides-nothing .same refused refused-too (0x80 ∷ []) 46 h (leaf-twice 1) (leaf-twice 0) (bytes-tested refused refl)
+          (record {
+            begins = reads-more (script-tested (2 ∷ 1 ∷ 1 ∷ 0 ∷ 2 ∷ 0 ∷ 0 ∷ 1 ∷ 0 ∷ 0 ∷ 0 ∷ []) h (leaf-twice 1) refl refl) (0x80 ∷ []);
+            drops = pointwise-cons unchanged (pointwise-cons (in-join (dropped refl refl) kept) pointwise-nil);
+            is = refl;
+          }) (λ _. omega arith),
+    )

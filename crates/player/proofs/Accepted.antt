@@ -94,7 +94,7 @@ commands-same (Close ∷ cs) (Close ∷ es) e = let q = commands-same cs es cc i
 
 -- ---- scripts
 
-pub reached-reads : {bs : List ℕ} {capacity : ℕ} {h : Head} {cs : List Command} {s : State} {rest : List ℕ} → Reached bs capacity h cs s rest
+reached-reads : {bs : List ℕ} {capacity : ℕ} {h : Head} {cs : List Command} {s : State} {rest : List ℕ} → Reached bs capacity h cs s rest
     → Reads bs (h .variable ∷ h .step ∷ flatMap commandNumbers cs) rest
 unfolding flatMap
 reached-reads (at-head short small k v one n) = k

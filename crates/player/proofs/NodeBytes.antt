@@ -8,7 +8,7 @@ use lib.ListN.{length}
 use Rattle.sizes.specs.Sizes.{leafBytes, joinBytes}
 use Rattle.number.specs.Number.{groups, Front, number, bad, read}
 use Rattle.number.proofs.Laws.{readIn-rest}
-use Rattle.totdb.specs.Nodes.{Node, leaf, joined, known, leafCount, sideLeaves}
+use Rattle.totdb.specs.Nodes.{Node, leaf, joined, known, leafCount}
 use Rattle.cert.specs.State.{State, Head, start, serve, requests}
 use Rattle.cert.proofs.Apart.{sized-ok}
 use Rattle.cert.proofs.Tables.{length-snoc}

@@ -20,8 +20,8 @@ use Rattle.cert.proofs.Lookups.{window-or}
 use Rattle.cert.proofs.Rules.{at-more}
 use Rattle.cert.proofs.Tables.{any-snoc, length-snoc, at-last}
 use Rattle.cert.proofs.WindowDerivations.{range-append}
-use Rattle.player.specs.Accepted.{without, makers, makerOf, joinOutputs, joinLengths, SideIs, plain-side, to-the-end, to-the-limit, JoinsAs, as-plain, as-it-is, NodesOf}
-use Rattle.player.specs.Called.{build, table, plainCommand}
+use Rattle.player.specs.Accepted.{without, makers, joinOutputs, joinLengths, SideIs, plain-side, to-the-end, to-the-limit, JoinsAs, as-plain, as-it-is, MakesNode, makes-leaf, makes-join, Pointwise, pointwise-nil, pointwise-cons, NodesOf}
+use Rattle.player.specs.Called.{build, table}
 use Rattle.player.specs.Passes.{AllPassed}
 use Rattle.player.specs.declared.Command.{Command}
 use Rattle.player.proofs.Matching.{nodes-table}
@@ -125,11 +125,20 @@ node-kept cs t o {u} e n h =
     ap (λ (x : List Node). nodeAt x n) (e ∙ g .1) ∙ sym (at-more t (g .0) n h)
 
 -- So is the plain form of a side over it.
-pub plain-kept : (cs : List Command) (t : List Node) (o : ℕ) {u : List Node} → u ≡ build cs t o → (s : Side) → s .node < length t
+plain-kept : (cs : List Command) (t : List Node) (o : ℕ) {u : List Node} → u ≡ build cs t o → (s : Side) → s .node < length t
     → plainForm u s ≡ plainForm t s
 plain-kept cs t o e s h = ap (λ (x : Node). plainOver s (len x)) (node-kept cs t o e (s .node) h)
 
--- The command that makes the node of a join, in the table u that it and those after it make.
+-- What a side joins as.
+joins-as : (t : List Node) (s : Side) → JoinsAs t s (plainForm t s)
+joins-as t s = by (ℕ-discrete (s .offset) 0) (ℕ-discrete (s .limit) (len (nodeAt t (s .node))))
+  where
+    by : Dec (s .offset ≡ 0) → Dec (s .limit ≡ len (nodeAt t (s .node))) → JoinsAs t s (plainForm t s)
+    by (yes p) (yes q) = rw (whole-form s (len (nodeAt t (s .node))) p q) (as-plain (omega (arith, p)) (omega (arith, q)))
+    by (yes p) (no q) = rw (other-form s (len (nodeAt t (s .node))) (λ z. q (z .1))) (as-it-is (λ z. q (z .1)))
+    by (no p) d = rw (other-form s (len (nodeAt t (s .node))) (λ z. p (z .0))) (as-it-is (λ z. p (z .0)))
+
+-- The node of a join, in the table u that it and the commands after it make.
 module _ (u : List Node) (ok : Sized u) (cs : List Command) (t : List Node) (o : ℕ) (l r : Side) (b : u ≡ build (Command.Join l r ∷ cs) t o) where
   below : (l .node < length t) × (r .node < length t)
   unfolding build Sized Fit joined
@@ -143,44 +152,43 @@ module _ (u : List Node) (ok : Sized u) (cs : List Command) (t : List Node) (o :
       let f : Fit u (length t) (joined t o l r) = subst (Fit u (length t)) is (ok (length t) there) in
       (f .0, f .1)
 
-  same-maker : makerOf (joined t o l r) ≡ plainCommand u (Command.Join l r)
-  unfolding makerOf plainCommand joined
-  same-maker = rw (plain-kept (Command.Join l r ∷ cs) t o b l (below .0), plain-kept (Command.Join l r ∷ cs) t o b r (below .1))
+  join-made : MakesNode u (Command.Join l r) (joined t o l r)
+  unfolding joined
+  join-made =
+      makes-join (subst (JoinsAs u l) (plain-kept (Command.Join l r ∷ cs) t o b l (below .0)) (joins-as u l))
+      (subst (JoinsAs u r) (plain-kept (Command.Join l r ∷ cs) t o b r (below .1)) (joins-as u r))
 
--- Each command of a list makes its node after the table t, or none; u is the table that all of them make.
+-- Each of the commands that makes a node after the table t makes the next; u is the table that all of them make.
 abbrev MadeAfter : List Node → List Node → List Command → Type 0
-MadeAfter u t cs = map {B = Command} makerOf u ≡ map {B = Command} makerOf t ++ map {B = Command} (plainCommand u) (unseen t (makers cs))
+MadeAfter u t cs = (new : List Node) × (u ≡ t ++ new) × Pointwise (MakesNode u) (unseen t (makers cs)) new
 
-build-makers : (u : List Node) → Sized u → (cs : List Command) (t : List Node) (o : ℕ) → u ≡ build cs t o → MadeAfter u t cs
-unfolding makers unseen build makerOf plainCommand
-build-makers u ok [] t o b = rw b (sym (append-nil (map {B = Command} makerOf t)))
-build-makers u ok (Command.Leaf l ∷ cs) t o b = by (known t l) refl (build-makers u ok cs t o) (build-makers u ok cs (t ++ (leaf l ∷ [])) o)
+build-made : (u : List Node) → Sized u → (cs : List Command) (t : List Node) (o : ℕ) → u ≡ build cs t o → MadeAfter u t cs
+unfolding makers unseen build
+build-made u ok [] t o b = ([], b ∙ sym (append-nil t), pointwise-nil)
+build-made u ok (Command.Leaf l ∷ cs) t o b = by (known t l) refl (build-made u ok cs t o) (build-made u ok cs (t ++ (leaf l ∷ [])) o)
   where
     by : (k : Bool) → known t l ≡ k → (u ≡ build cs t o → MadeAfter u t cs)
         → (u ≡ build cs (t ++ (leaf l ∷ [])) o → MadeAfter u (t ++ (leaf l ∷ [])) cs)
-        → map {B = Command} makerOf u
-        ≡ map {B = Command} makerOf t ++ map {B = Command} (plainCommand u) (pickOne (known t l) l (unseen t (without l (makers cs))))
+        → (new : List Node) × (u ≡ t ++ new) × Pointwise (MakesNode u) (pickOne (known t l) l (unseen t (without l (makers cs)))) new
     by true e f g =
-        f (b ∙ build-known l cs t o e)
-        ∙ rw e (ap (λ (x : List Command). map {B = Command} makerOf t ++ map {B = Command} (plainCommand u) x)
-        (sym (unseen-without l t t (known-again t l e) (makers cs))))
+        let m = f (b ∙ build-known l cs t o e) in
+        (m .0, m .1, rw (e, unseen-without l t t (known-again t l e) (makers cs)) (m .2))
     by false e f g =
-        g (b ∙ build-new l cs t o e)
-        ∙ ap (λ (x : List Command). x ++ map {B = Command} (plainCommand u) (unseen (t ++ (leaf l ∷ [])) (makers cs))) (map-append makerOf t (leaf l ∷ []))
-        ∙ append-snoc (map {B = Command} makerOf t) (makerOf (leaf l)) (map {B = Command} (plainCommand u) (unseen (t ++ (leaf l ∷ [])) (makers cs)))
-        ∙ rw e (ap (λ (x : List Command). map {B = Command} makerOf t ++ (Command.Leaf l ∷ map {B = Command} (plainCommand u) x))
-        (sym (unseen-without l t (t ++ (leaf l ∷ [])) (known-leaf t l) (makers cs))))
-build-makers u ok (Command.Join l r ∷ cs) t o b =
+        let m = g (b ∙ build-new l cs t o e) in (
+          leaf l ∷ m .0,
+          m .1 ∙ append-snoc t (leaf l) (m .0),
+          rw (e, unseen-without l t (t ++ (leaf l ∷ [])) (known-leaf t l) (makers cs)) (pointwise-cons makes-leaf (m .2)),
+        )
+build-made u ok (Command.Join l r ∷ cs) t o b =
     let j : Node = joined t o l r in
     let with-join : List Node = t ++ (joined t o l r ∷ []) in
-    build-makers u ok cs with-join (o + len j) b
-    ∙ ap (λ (x : List Command). x ++ map {B = Command} (plainCommand u) (unseen with-join (makers cs))) (map-append makerOf t (j ∷ []))
-    ∙ append-snoc (map {B = Command} makerOf t) (makerOf j) (map {B = Command} (plainCommand u) (unseen with-join (makers cs)))
-    ∙ ap (λ (x : List Command). map {B = Command} makerOf t ++ (makerOf j ∷ map {B = Command} (plainCommand u) x))
-    (unseen-same with-join t (unfold joined in known-join t _ o _ _) (makers cs))
-    ∙ ap (λ (c : Command). map {B = Command} makerOf t ++ (c ∷ map {B = Command} (plainCommand u) (unseen t (makers cs)))) (same-maker u ok cs t o l r b)
-build-makers u ok (Command.Request n v d ∷ cs) t o b = build-makers u ok cs t o b
-build-makers u ok (Command.Close ∷ cs) t o b = build-makers u ok cs t o b
+    let m = build-made u ok cs with-join (o + len j) b in (
+      j ∷ m .0,
+      m .1 ∙ append-snoc t j (m .0),
+      pointwise-cons (join-made u ok cs t o l r b) (subst (λ (x : List Command). Pointwise (MakesNode u) x (m .0)) (unseen-same with-join t (unfold joined in known-join t _ o _ _) (makers cs)) (m .2)),
+    )
+build-made u ok (Command.Request n v d ∷ cs) t o b = build-made u ok cs t o b
+build-made u ok (Command.Close ∷ cs) t o b = build-made u ok cs t o b
 
 -- ---- outputs
 
@@ -283,23 +291,11 @@ side-of t s = by (s .offset) (s .limit) refl refl
         let c = side-outputs t s (s .limit) a in
         rw (a, b, c) (to-the-limit (omega arith))
 
--- What a side joins as.
-pub joins-as : (t : List Node) (s : Side) → JoinsAs t s (plainForm t s)
-joins-as t s = by (ℕ-discrete (s .offset) 0) (ℕ-discrete (s .limit) (len (nodeAt t (s .node))))
-  where
-    by : Dec (s .offset ≡ 0) → Dec (s .limit ≡ len (nodeAt t (s .node))) → JoinsAs t s (plainForm t s)
-    by (yes p) (yes q) = rw (whole-form s (len (nodeAt t (s .node))) p q) (as-plain p q)
-    by (yes p) (no q) = rw (other-form s (len (nodeAt t (s .node))) (λ z. q (z .1))) (as-it-is (λ z. q (z .1)))
-    by (no p) d = rw (other-form s (len (nodeAt t (s .node))) (λ z. p (z .0))) (as-it-is (λ z. p (z .0)))
-
 -- ---- all of it
 
 pub nodes-of : (h : Head) (capacity : ℕ) (cs : List Command) (u : State) → AllPassed h capacity cs (start h) u → NodesOf h cs (table h cs)
 nodes-of h capacity cs u a = record {
-  made-by =
-      build-makers (table h cs) (unfold Sized in sized) cs [] (h .variable) (unfold table in refl)
-      ∙ ap (map {B = Command} (plainCommand (table h cs))) (unseen-nil (makers cs));
-  joins-as = joins-as (table h cs);
+  made-by = made-all;
   leaves-low = λ n l i e. low l (numbered .leaf-low n l i e);
   leaves-own = λ l. unfold leaves output in (refl, refl);
   sides = side-of (table h cs);
@@ -317,6 +313,12 @@ nodes-of h capacity cs u a = record {
 
     sized : (n : ℕ) → n < length (table h cs) → Fit (table h cs) n (nodeAt (table h cs) n)
     sized = unfold Sized in rw (nodes-table h capacity cs u a) at (sound .sized)
+
+    made-all : Pointwise (MakesNode (table h cs)) (makers cs) (table h cs)
+    made-all =
+        let m = build-made (table h cs) (unfold Sized in sized) cs [] (h .variable) (unfold table in refl) in
+        subst (λ (x : List Command). Pointwise (MakesNode (table h cs)) x (table h cs)) (unseen-nil (makers cs))
+        (subst (Pointwise (MakesNode (table h cs)) (unseen [] (makers cs))) (sym (m .1)) (m .2))
 
     low : (l : ℕ) → l < 2 * h .variable → variable l < h .variable
     low l k = unfold variable in omega arith

@@ -160,11 +160,11 @@ pub side-answer : (t : List Node) (s : Side) → Answer (OffNode t s) (sideFits 
 unfolding sideFits
 side-answer t s =
     let n : ℕ = len (nodeAt t (s .node)) in
-    answer-map (⊎-elim offset-high limit-high) apart (answer-both (answer-below (s .offset) n) (answer-most (s .limit) (n - s .offset)))
+    answer-map (⊎-elim (λ l. offset-high (omega arith)) (λ l. limit-high (omega arith))) apart (answer-both (answer-below (s .offset) n) (answer-most (s .limit) (n - s .offset)))
   where
     apart : OffNode t s → (len (nodeAt t (s .node)) ≤ s .offset) ⊎ (len (nodeAt t (s .node)) - s .offset < s .limit)
-    apart (offset-high l) = inl l
-    apart (limit-high l) = inr l
+    apart (offset-high l) = inl (omega arith)
+    apart (limit-high l) = inr (omega arith)
 
 -- ---- the questions that a command is put, beside the order
 

@@ -1,7 +1,6 @@
 -- What a script that passes leaves, found from head and commands: its nodes, and the places of its records.
 use mathlib.Core.Path.{_≡_}
 use mathlib.Core.Bool.{true, false}
-use mathlib.Core.Logic.{_≢_}
 use mathlib.Core.List.{List, [], _∷_, _++_, map, List·Memᴰ}
 use Prim.Native.Nat.{ℕ, _+_, _-_, _*_, _<_}
 use lib.Dec.{eqb}
@@ -9,10 +8,9 @@ use lib.ListN.{length}
 use Rattle.pb.specs.Sum.{variable}
 use Rattle.record.specs.Record.{Record, clause}
 use Rattle.record.specs.Written.{WrittenFor, EachFor, Ended}
-use Rattle.totdb.specs.Nodes.{Node, leaf, join, nodeAt, leaves, len, output, range, sideLen, plainForm, sideLeaves, any}
+use Rattle.totdb.specs.Nodes.{Node, leaf, join, nodeAt, leaves, len, output, range, sideLen, sideLeaves, any}
 use Rattle.totdb.specs.declared.Side.{Side}
 use Rattle.cert.specs.State.{Head}
-use Rattle.player.specs.Called.{plainCommand}
 use Rattle.player.specs.Script.{closes}
 use Rattle.player.specs.declared.Command.{Command}
 
@@ -35,11 +33,6 @@ makers (Command.Join l r ∷ cs) = Command.Join l r ∷ makers cs
 makers (Command.Request n v d ∷ cs) = makers cs
 makers (Command.Close ∷ cs) = makers cs
 
--- The command that makes a node.
-unfoldable pub makerOf : Node → Command
-makerOf (leaf l) = Command.Leaf l
-makerOf (join ls o l r) = Command.Join l r
-
 -- The outputs of the joins of a table, one join after the other, each from value 1 to its length; and how many they are.
 unfoldable pub joinOutputs : List Node → List ℕ
 unfolding output range
@@ -60,16 +53,24 @@ pub data SideIs (t : List Node) (s : Side) : ℕ → List ℕ → Type 0 where
       → SideIs t s (len (nodeAt t (s .node)) - s .offset) (map (output (nodeAt t (s .node))) (range (s .offset + 1) (len (nodeAt t (s .node)) - s .offset)))
   to-the-limit : 0 < s .limit → SideIs t s (s .limit) (map (output (nodeAt t (s .node))) (range (s .offset + 1) (s .limit)))
 
--- The side that a join has for the side s of its command. Offset 0 with limit equal to the length hides nothing: it joins as a plain side (document 02,
--- §3). Any other joins as it is.
+-- What a side joins as. Offset 0 with limit equal to the length hides nothing: it joins as a plain side (document 02, §3). Any other joins as it is.
 pub data JoinsAs (t : List Node) (s : Side) : Side → Type 0 where
   as-plain : s .offset ≡ 0 → s .limit ≡ len (nodeAt t (s .node)) → JoinsAs t s (record { node = s .node; offset = 0; limit = 0 })
   as-it-is : ((s .offset ≡ 0) × (s .limit ≡ len (nodeAt t (s .node))) → ⊥) → JoinsAs t s s
 
+-- The node that a command makes.
+pub data MakesNode (t : List Node) : Command → Node → Type 0 where
+  makes-leaf : {l : ℕ} → MakesNode t (Command.Leaf l) (leaf l)
+  makes-join : {ls : List ℕ} {o : ℕ} {l r a b : Side} → JoinsAs t l a → JoinsAs t r b → MakesNode t (Command.Join l r) (join ls o a b)
+
+-- Two lists are related element by element.
+pub data Pointwise {A B : Type 0} (R : A → B → Type 0) : List A → List B → Type 0 where
+  pointwise-nil : Pointwise R [] []
+  pointwise-cons : {x : A} {y : B} {xs : List A} {ys : List B} → R x y → Pointwise R xs ys → Pointwise R (x ∷ xs) (y ∷ ys)
+
 pub record NodesOf (h : Head) (cs : List Command) (t : List Node) : Type 0 where
   -- One node for each of these commands, in their order. A leaf literal seen before gets no new one.
-  pub made-by : map {B = Command} makerOf t ≡ map {B = Command} (plainCommand t) (makers cs)
-  pub joins-as : (s : Side) → JoinsAs t s (plainForm t s)
+  pub made-by : Pointwise (MakesNode t) (makers cs) t
   -- Question 6.
   pub leaves-low : (n l : ℕ) → n < length t → nodeAt t n ≡ leaf l → variable l < h .variable
   -- A leaf's literal is its one output and its leaf list.

@@ -1,9 +1,9 @@
 -- What a script calls for, found from head and commands alone: its nodes, its requests and all they need below, their clauses and definitions.
 use mathlib.Core.Bool.{true, false}
-use mathlib.Core.List.{List, [], _∷_, _++_, map, List·Memᴰ}
+use mathlib.Core.List.{List, [], _∷_, _++_, List·Memᴰ}
 use Prim.Native.Nat.{ℕ, _+_}
 use Rattle.memo.specs.Closure.{Reach}
-use Rattle.totdb.specs.Nodes.{Node, leaf, nodeAt, len, limitOver, plainForm, joined, known}
+use Rattle.totdb.specs.Nodes.{Node, leaf, len, joined, known}
 use Rattle.cert.specs.Definitions.{Key}
 use Rattle.cert.specs.Lookups.{keysOf}
 use Rattle.cert.specs.Requests.{Request, Names}
@@ -35,19 +35,6 @@ build (Command.Close ∷ cs) t o = build cs t o
 unfoldable pub table : Head → List Command → List Node
 unfolding build
 table h cs = build cs [] (h .variable)
-
--- A command with its sides in their plain form: limit 0 for a limit, at offset 0, that is the length of its node in the table t.
-unfoldable pub plainCommand : List Node → Command → Command
-unfolding nodeAt len limitOver
-plainCommand t (Command.Leaf l) = Command.Leaf l
-plainCommand t (Command.Join l r) = Command.Join (plainForm t l) (plainForm t r)
-plainCommand t (Command.Request n v d) = Command.Request n v d
-plainCommand t Command.Close = Command.Close
-
--- The same commands with limit 0 for each such limit.
-unfoldable pub plainCommands : Head → List Command → List Command
-unfolding table plainCommand
-plainCommands h cs = map (plainCommand (table h cs)) cs
 
 -- The requests that the commands name, and on down to the leaves all that these depend on.
 abbrev pub Closure : Head → List Command → Request → Type 0

@@ -24,9 +24,13 @@ pub record Reads (bs ns rest : List ℕ) : Type 0 where
   pub coded : bs ≡ flatMap encode ns ++ rest
   pub short : (x : ℕ) → List·Memᴰ x ns → length (encode x) ≤ 4
 
+-- A script that begins with this head and these commands, and goes on with rest in whatever way.
+abbrev pub Begins : List ℕ → Head → List Command → List ℕ → Type 0
+Begins bs h cs rest = Reads bs (h .variable ∷ h .step ∷ flatMap commandNumbers cs) rest
+
 -- The script of a head and commands.
 abbrev pub IsScript : List ℕ → Head → List Command → Type 0
-IsScript bs h cs = Reads bs (h .variable ∷ h .step ∷ flatMap commandNumbers cs) []
+IsScript bs h cs = Begins bs h cs []
 
 -- ---- what a table has
 
@@ -50,8 +54,8 @@ joinedNodes t = flatMap sideNodes t
 
 -- ---- a command's questions, where they are answered no
 
--- Question 10, of one side: offset not below the length, or limit past the length less offset. (A limit that is the whole length is none to it:
--- document 02, §3.)
+-- Question 10, of one side: offset not below the length, or limit past the length less offset. At offset 0 the whole length passes as a limit
+-- (document 02, §3).
 pub data OffNode (t : List Node) (s : Side) : Type 0 where
   offset-high : len (nodeAt t (s .node)) ≤ s .offset → OffNode t s
   limit-high : len (nodeAt t (s .node)) - s .offset < s .limit → OffNode t s

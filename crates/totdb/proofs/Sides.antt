@@ -27,36 +27,31 @@ module _ (s : Side) (n : ℕ) where
   pub length-rest : s .limit ≡ 0 → lengthOver s n ≡ n - s .offset
   length-rest h = limited-none (s .limit) (n - s .offset) h
 
--- The limit of the plain form: 0 for one that hides nothing, else the limit as it is. It is no higher, and is its own plain form.
-pub by-limit : (f k n : ℕ) (P : ℕ → Type 0) → (f ≡ 0 → k ≡ n → P 0) → (((f ≡ 0) × (k ≡ n) → ⊥) → P k) → P (limitOver f k n)
+-- The limit of the plain form: 0 for one that hides nothing, else the limit as it is. It is no higher.
+limit-cases : (f k n : ℕ) (P : ℕ → Type 0) → (f ≡ 0 → k ≡ n → P 0) → (((f ≡ 0) × (k ≡ n) → ⊥) → P k) → P (limitOver f k n)
 unfolding limitOver
-by-limit zero k n P whole other = by (ℕ-discrete k n)
+limit-cases zero k n P whole other = by (ℕ-discrete k n)
   where
     by : Dec (k ≡ n) → P (limitOver 0 k n)
     by (yes q) = rw (eq-eqb k n q, limitOver) (whole refl q)
     by (no q) = rw (ne-eqb k n q, limitOver) (other (λ z. q (z .1)))
-by-limit (suc f) k n P whole other = other (λ z. omega (arith, z .0))
+limit-cases (suc f) k n P whole other = other (λ z. omega (arith, z .0))
 
 pub limit-lower : (f k n : ℕ) → limitOver f k n ≤ k
-limit-lower f k n = by-limit f k n (λ m. m ≤ k) (λ p q. omega arith) (λ p. omega arith)
-
-pub limit-twice : (f k n : ℕ) → limitOver f (limitOver f k n) n ≡ limitOver f k n
-limit-twice f k n =
-    by-limit f k n (λ m. limitOver f m n ≡ m) (λ p q. omega (arith, limit-lower f 0 n))
-    (λ p. by-limit f k n (λ m. m ≡ k) (λ a b. absurd (p (a, b))) (λ _. refl))
+limit-lower f k n = limit-cases f k n (λ m. m ≤ k) (λ p q. omega arith) (λ p. omega arith)
 
 -- A side in its plain form: plain, or as it is. Its length stays.
 pub whole-form : (s : Side) (n : ℕ) → s .offset ≡ 0 → s .limit ≡ n → plainOver s n ≡ record { node = s .node; offset = 0; limit = 0 }
 whole-form s n p q =
-    by-limit (s .offset) (s .limit) n (λ m. _≡_ {A = Side} (record { node = s .node; offset = s .offset; limit = m }) (record { node = s .node; offset = 0; limit = 0 }))
+    limit-cases (s .offset) (s .limit) n (λ m. _≡_ {A = Side} (record { node = s .node; offset = s .offset; limit = m }) (record { node = s .node; offset = 0; limit = 0 }))
     (λ _ _. rw p) (λ h. absurd (h (p, q)))
 
 pub other-form : (s : Side) (n : ℕ) → ((s .offset ≡ 0) × (s .limit ≡ n) → ⊥) → plainOver s n ≡ s
 other-form s n h =
-    by-limit (s .offset) (s .limit) n (λ m. _≡_ {A = Side} (record { node = s .node; offset = s .offset; limit = m }) s) (λ p q. absurd (h (p, q))) (λ _. refl)
+    limit-cases (s .offset) (s .limit) n (λ m. _≡_ {A = Side} (record { node = s .node; offset = s .offset; limit = m }) s) (λ p q. absurd (h (p, q))) (λ _. refl)
 
 pub plain-length : (s : Side) (n : ℕ) → lengthOver (plainOver s n) n ≡ lengthOver s n
-plain-length s n = by-limit (s .offset) (s .limit) n (λ m. limited m (n - s .offset) ≡ lengthOver s n) (by n) (λ _. refl)
+plain-length s n = limit-cases (s .offset) (s .limit) n (λ m. limited m (n - s .offset) ≡ lengthOver s n) (by n) (λ _. refl)
   where
     by : (m : ℕ) → s .offset ≡ 0 → s .limit ≡ m → limited 0 (m - s .offset) ≡ lengthOver s m
     by zero p q = rw q

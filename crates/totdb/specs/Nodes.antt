@@ -68,12 +68,12 @@ unfoldable pub sideLen : List Node → Side → ℕ
 unfolding nodeAt len limited
 sideLen t s = lengthOver s (len (nodeAt t (s .node)))
 
--- The limit k at offset f over n values, and 0 for one that hides nothing: offset 0 with the whole length (document 02, §3).
+-- The limit k at offset f over n values; 0 for the whole length at offset 0, which hides nothing (document 02, §3).
 unfoldable pub limitOver : ℕ → ℕ → ℕ → ℕ
 limitOver zero k n = elim (eqb k n) [ true ↦ 0 | false ↦ k ]
 limitOver (suc f) k n = k
 
--- A side of a node of n values in its plain form: it has no limit that hides nothing.
+-- A side of a node of n values in its plain form: limit 0 for offset 0 with the whole length, and any other side as it is.
 abbrev pub plainOver : Side → ℕ → Side
 plainOver s n = record { node = s .node; offset = s .offset; limit = limitOver (s .offset) (s .limit) n }
 
