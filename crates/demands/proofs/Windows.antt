@@ -49,7 +49,7 @@ module _ (t u : List Node) (alike : (n : ℕ) → n < length t → nodeAt u n �
 
   same-fits : {s a : Side} → DropsSide u s a → s .node < length t → sideFits t a ≡ sideFits t s
   same-fits kept i = refl
-  same-fits {s} (dropped p q) i = unfold sideFits in rw (p, whole-here s q i) (whole (len (nodeAt t (s .node))))
+  same-fits {s} (dropped p q) i = unfold sideFits in rw (p, whole-here s (omega (arith, q)) i) (whole (len (nodeAt t (s .node))))
     where
       whole : (n : ℕ) → (ltb 0 n && leb 0 (n - 0)) ≡ (ltb 0 n && leb n (n - 0))
       whole n = ap (λ (b : Bool). ltb 0 n && b) (le-leb 0 (n - 0) (omega arith) ∙ sym (le-leb n (n - 0) (omega arith)))
@@ -59,7 +59,7 @@ module _ (t u : List Node) (alike : (n : ℕ) → n < length t → nodeAt u n �
   same-form {s} (dropped p q) i =
       let n : ℕ = len (nodeAt t (s .node)) in
       let none : limitOver 0 0 (len (nodeAt t (s .node))) ≡ 0 = omega (arith, limit-lower 0 0 n) in
-      ap {B = Side} (λ (k : ℕ). record { node = s .node; offset = 0; limit = k }) none ∙ sym (whole-form s n p (whole-here s q i))
+      ap {B = Side} (λ (k : ℕ). record { node = s .node; offset = 0; limit = k }) none ∙ sym (whole-form s n p (whole-here s (omega (arith, q)) i))
 
 -- ---- a command, in the state s
 
