@@ -25,7 +25,7 @@ use Rattle.player.specs.Player.{firstNo, sideFits, questions, make, act, Result
 use Rattle.player.specs.Script.{Next, command, refuse, end, closes, Commands, before, readCommand, readCommands, script, readScript, commandNumbers, scriptBytes}
 use Rattle.player.specs.Verdict.{Reads, Begins, Reached}
 use Rattle.player.specs.declared.Command.{Command}
-use Rattle.demands.specs.Windows.{DropsSide, dropped, kept, DropsCommand, in-join, unchanged, Others, HidesNothing}
+use Rattle.demands.specs.Windows.{DropsSide, dropped, kept, DropsCommand, in-join, unchanged, DropsLimits, HidesNothing}
 use Rattle.player.proofs.Coding.{bytes-cons, small-split, nothing-left}
 use Rattle.player.proofs.Fronts.{short-small, small-short, reads-cons, reads-nil, reads-split, rest-bytes, reads-command, command-reads, command-shorter, closed-code}
 use Rattle.player.proofs.Formed.{formed-start, all-formed}
@@ -326,7 +326,19 @@ whole-length rest h cs e =
       length-append (flatMap encode (h .variable ∷ h .step ∷ [])) (flatMap encode ns),
     )
 
-module _ {bs other rest : List ℕ} (h : Head) (cs ds : List Command) (o : Others bs other rest h cs ds) where
+module _ {bs other : List ℕ} (o : DropsLimits bs other) where
+  abbrev h : Head
+  h = o .head
+
+  abbrev cs : List Command
+  cs = o .own
+
+  abbrev ds : List Command
+  ds = o .others
+
+  abbrev rest : List ℕ
+  rest = o .rest
+
   own-bytes : bs ≡ scriptBytes h cs ++ rest
   unfolding scriptBytes
   own-bytes = o .begins .coded
@@ -412,22 +424,22 @@ passed-short {capacity} {h} {cs} {s} fits all n = by (decLe (length (s .nodes)) 
     by (yes l) = rw (sym is) (none-short (s .nodes) n l)
     by (no l) = rw (sym is) (omega (arith, all-formed all (formed-start h fits) .treed .each n (omega (arith, l))))
 
-reached-as-long : {bs other rest : List ℕ} {capacity : ℕ} {h : Head} {cs ds : List Command} {s : State} → Others bs other rest h cs ds
-    → Reached bs capacity h cs s rest ⊎ Reached other capacity h ds s rest → length other ≡ length bs
-reached-as-long {bs} {other} {rest} {capacity} {h} {cs} {ds} {s} o r = other-as-long h cs ds o (⊎-elim own others r)
+reached-as-long : {bs other : List ℕ} {capacity : ℕ} {s : State} (o : DropsLimits bs other)
+    → Reached bs capacity (o .head) (o .own) s (o .rest) ⊎ Reached other capacity (o .head) (o .others) s (o .rest) → length other ≡ length bs
+reached-as-long {bs} {other} {capacity} {s} o r = other-as-long o (⊎-elim own others r)
   where
-    own : Reached bs capacity h cs s rest → (n : ℕ) → len (nodeAt (table h cs) n) < 128
+    own : Reached bs capacity (o .head) (o .own) s (o .rest) → (n : ℕ) → len (nodeAt (table (o .head) (o .own)) n) < 128
     own r = let a = reached-all r in passed-short (a .2) (a .3)
 
-    others : Reached other capacity h ds s rest → (n : ℕ) → len (nodeAt (table h cs) n) < 128
+    others : Reached other capacity (o .head) (o .others) s (o .rest) → (n : ℕ) → len (nodeAt (table (o .head) (o .own)) n) < 128
     others r =
         let a = reached-all r in
-        passed-short (a .2) (same-passed h capacity (table h cs) (o .drops) (sound-start h) (first-table h cs ds o) (a .3))
+        passed-short (a .2) (same-passed (o .head) capacity (table (o .head) (o .own)) (o .drops) (sound-start (o .head)) (first-table o) (a .3))
 
 pub hides-nothing : HidesNothing
 hides-nothing = record {
-  begins = λ bs other rest h cs ds w o. (other-bytes h cs ds o w, other-begins h cs ds o);
-  same = λ bs other rest capacity h cs ds w o alike. played-same h cs ds o w capacity (λ l. omega (arith, alike l));
-  no-longer = λ bs other rest h cs ds o. omega (arith, other-shorter h cs ds o);
-  as-long = λ bs other rest capacity h cs ds s o r. omega (arith, reached-as-long o r);
+  same = λ bs other capacity w o alike. played-same o w capacity (λ l. omega (arith, alike l));
+  no-longer = λ bs other o. omega (arith, other-shorter o);
+  as-long = λ bs other capacity s o r. omega (arith, reached-as-long o r);
+  begins = λ bs other w o. (other-bytes o w, other-begins o);
 }

@@ -27,7 +27,7 @@ use Rattle.player.proofs.Judged.{verdict-of}
 use Rattle.demands.specs.Demands.{Alike, Meets1, Meets2, Meets3, Demand1, Demand3}
 use Rattle.demands.specs.Needed.{Acts, NoneUndefined}
 use Rattle.demands.specs.Fields.{FifthGroup, RefusedBy}
-use Rattle.demands.specs.Windows.{dropped, kept, in-join, unchanged, Others}
+use Rattle.demands.specs.Windows.{dropped, kept, in-join, unchanged, DropsLimits}
 use Rattle.demands.proofs.Demand1.{demand-1}
 use Rattle.demands.proofs.Demand2.{demand-2}
 use Rattle.demands.proofs.Demand3.{demand-3}
@@ -208,9 +208,13 @@ pub full-bytes : Bytes full-limits
 unfolding full-limits areBytes
 full-bytes = bytes-tested full-limits refl
 
-pub limits-dropped : Others full-limits no-limits [] head (limits 1 2 1 1) (limits 0 0 0 0)
+pub limits-dropped : DropsLimits full-limits no-limits
 unfolding full-limits no-limits head limits areShort scriptBytes commandNumbers flatMap table
 limits-dropped = record {
+  head = head;
+  own = limits 1 2 1 1;
+  others = limits 0 0 0 0;
+  rest = [];
   begins = script-tested full-limits head (limits 1 2 1 1) refl refl;
   drops =
       pointwise-cons unchanged (pointwise-cons unchanged (pointwise-cons unchanged (pointwise-cons unchanged
@@ -222,12 +226,13 @@ limits-dropped = record {
 
 pub same-log : played no-limits 600 ≡ played full-limits 600
 unfolding full-limits
-same-log = hides-nothing .same full-limits no-limits [] 600 head (limits 1 2 1 1) (limits 0 0 0 0) full-bytes limits-dropped (λ _. omega arith)
+same-log = hides-nothing .same full-limits no-limits 600 full-bytes limits-dropped (λ _. omega arith)
 
 pub same-length : length no-limits ≡ length full-limits
+unfolding limits-dropped
 same-length =
     let r = accepted-reached full-bytes (limits-dropped .begins) accepted in
-    hides-nothing .as-long full-limits no-limits [] 600 head (limits 1 2 1 1) (limits 0 0 0 0) (r .0) limits-dropped (inl (r .1))
+    hides-nothing .as-long full-limits no-limits 600 (r .0) limits-dropped (inl (r .1))
   where
     accepted : played full-limits 600 .number ≡ 0
     accepted = unfold full-limits played in refl
@@ -248,8 +253,12 @@ unfolding refused refused-too leaf-twice played areBytes areShort scriptBytes co
 same-refusal =
     let h : Head = record { variable = 2; step = 1 } in (
       refl,
-      hides-nothing .same refused refused-too (0x80 ∷ []) 46 h (leaf-twice 1) (leaf-twice 0) (bytes-tested refused refl)
+      hides-nothing .same refused refused-too 46 (bytes-tested refused refl)
           (record {
+            head = h;
+            own = leaf-twice 1;
+            others = leaf-twice 0;
+            rest = 0x80 ∷ [];
             begins = reads-more (script-tested (2 ∷ 1 ∷ 1 ∷ 0 ∷ 2 ∷ 0 ∷ 0 ∷ 1 ∷ 0 ∷ 0 ∷ 0 ∷ []) h (leaf-twice 1) refl refl) (0x80 ∷ []);
             drops = pointwise-cons unchanged (pointwise-cons (in-join (dropped refl refl) kept) pointwise-nil);
             is = refl;

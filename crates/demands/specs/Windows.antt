@@ -25,26 +25,27 @@ pub data DropsCommand (t : List Node) : Command → Command → Type 0 where
   in-join : {l r a b : Side} → DropsSide t l a → DropsSide t r b → DropsCommand t (Command.Join l r) (Command.Join a b)
   unchanged : {c : Command} → DropsCommand t c c
 
--- The commands cs with limit 0 for all such limits, or for some. The nodes are those that all of them would make, refused or not: after a refusal, and of a
--- node that does not exist yet, no limit is looked at.
-abbrev pub DropsLimits : Head → List Command → List Command → Type 0
-DropsLimits h cs ds = Pointwise (DropsCommand (table h cs)) cs ds
-
--- A script bs of the commands cs, and the other with limit 0 for limits that hide nothing. Both go on with rest in whatever way.
-pub record Others (bs other rest : List ℕ) (h : Head) (cs ds : List Command) : Type 0 where
-  pub begins : Begins bs h cs rest
-  pub drops : DropsLimits h cs ds
-  pub is : other ≡ scriptBytes h ds ++ rest
+-- The script `other` is bs with limit 0 for all limits that hide nothing, or for some. After the commands both go on in the same way, whatever it is.
+pub record DropsLimits (bs other : List ℕ) : Type 0 where
+  pub head : Head
+  pub own : List Command
+  pub others : List Command
+  pub rest : List ℕ
+  pub begins : Begins bs head own rest
+  -- Lengths are those of the nodes that all the commands would make, refused or not: of a node that does not exist yet, and after a refusal, no limit is
+  -- looked at.
+  pub drops : Pointwise (DropsCommand (table head own)) own others
+  pub is : other ≡ scriptBytes head others ++ rest
 
 -- "Offset 0 with limit equal to the length now joins as a plain side, and the log is that of the same script with limit 0."
 pub record HidesNothing : Type 0 where
-  -- The other is a script, and of those commands.
-  pub begins : (bs other rest : List ℕ) (h : Head) (cs ds : List Command) → Bytes bs → Others bs other rest h cs ds → Bytes other × Begins other h ds rest
   -- All six numbers and the log are the same, whether the script is accepted or not, for every length of the log, unless question 1 tells the two
   -- apart by their own lengths.
-  pub same : (bs other rest : List ℕ) (capacity : ℕ) (h : Head) (cs ds : List Command) → Bytes bs → Others bs other rest h cs ds
-      → (length other ≤ 65536 → length bs ≤ 65536) → played other capacity ≡ played bs capacity
+  pub same : (bs other : List ℕ) (capacity : ℕ) → Bytes bs → DropsLimits bs other → (length other ≤ 65536 → length bs ≤ 65536)
+      → played other capacity ≡ played bs capacity
   -- The other is never longer; and as long, where the commands of either are accepted.
-  pub no-longer : (bs other rest : List ℕ) (h : Head) (cs ds : List Command) → Others bs other rest h cs ds → length other ≤ length bs
-  pub as-long : (bs other rest : List ℕ) (capacity : ℕ) (h : Head) (cs ds : List Command) (s : State) → Others bs other rest h cs ds
-      → Reached bs capacity h cs s rest ⊎ Reached other capacity h ds s rest → length other ≡ length bs
+  pub no-longer : (bs other : List ℕ) → DropsLimits bs other → length other ≤ length bs
+  pub as-long : (bs other : List ℕ) (capacity : ℕ) (s : State) (d : DropsLimits bs other)
+      → Reached bs capacity (d .head) (d .own) s (d .rest) ⊎ Reached other capacity (d .head) (d .others) s (d .rest) → length other ≡ length bs
+  -- It is a script of its commands.
+  pub begins : (bs other : List ℕ) → Bytes bs → (d : DropsLimits bs other) → Bytes other × Begins other (d .head) (d .others) (d .rest)

@@ -191,7 +191,7 @@ fn plain_form(nodes: &[u32], s: Side) -> Side
     s.plain_form(len(nodes, s.node))
 }
 
-// A join of two sides, each in its plain form from here on. Its length.
+// The same, of the sides' plain forms.
 pub fn add_join(nodes: &mut [u32], n: usize, variable: u32, l: Side, r: Side) -> usize
     requires { ⌜ rowAt (n + 1) ≤ length (now nodes) ⌝ }
     requires { ⌜ ((t : List Node) × Joinable (now nodes) t n variable l r) ⌝ }
