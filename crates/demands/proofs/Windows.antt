@@ -241,7 +241,7 @@ unfolding taking flatMap
 taking-is [] = refl
 taking-is (n ∷ ns) = omega (arith, length-append (encode n) (flatMap encode ns), taking-is ns)
 
--- 0 takes one byte, and so does a number below 128.
+-- 0 takes one byte.
 zero-takes : length (encode 0) ≡ 1
 zero-takes = omega (arith, encode-some 0, encode-length 0 1 (omega arith) .1 (omega arith))
 

@@ -1,5 +1,5 @@
--- The whole case of document 01, its cases marked (P), and those of document 02, §2, as one list: what the definitions give, and what the
--- documents say.
+-- The whole case of document 01, its cases marked (P), and those of document 02, §2 and §3, as one list: what the definitions give, and what
+-- the documents say.
 use mathlib.Core.List.{List, [], _∷_, _++_}
 use mathlib.Core.Option.{Option, none, some}
 use Prim.Native.Nat.{ℕ}
@@ -70,6 +70,10 @@ pair-log =
     ∷ 0x02 ∷ 0x04 ∷ 0x00 ∷ 0x01 ∷ 0x01 ∷ 0x02 ∷ 0x02 ∷ 0x04
     ∷ 0x03 ∷ 0x04 ∷ 0x02 ∷ 0x01 ∷ 0x04 ∷ []
 
+-- the whole case with these limits of the two leaves
+unfoldable limited-pair : ℕ → ℕ → List ℕ
+limited-pair j k = 2 ∷ 1 ∷ 1 ∷ 0 ∷ 1 ∷ 2 ∷ 2 ∷ 0 ∷ 0 ∷ j ∷ 1 ∷ 0 ∷ k ∷ 3 ∷ 2 ∷ 1 ∷ 1 ∷ []
+
 -- leaves 0 2 4 6, node 4 joins the first two, node 5 that and the third (its outputs on the variables 6 to 8), node 6 joins node 5 from offset f on and
 -- the fourth
 unfoldable tree : ℕ → List ℕ
@@ -88,7 +92,7 @@ unfoldable over : List ℕ
 over = 0x81 ∷ 0xc2 ∷ 0xd7 ∷ 0x2f ∷ []
 
 unfoldable pub cases : List Case
-unfolding most over plays reads steps-to defines calls-for pair pair-log tree window
+unfolding most over plays reads steps-to defines calls-for pair limited-pair pair-log tree window
 cases =
     -- the whole case; with a log one byte too short; the sums it defines; what its request calls for
     plays (pair 1 1) 46 (answer 0 4 46 4 2 3 pair-log)
@@ -124,6 +128,10 @@ cases =
     -- offset length - 1 passes; the length does not
     ∷ plays (tree 2) 0 (answer 0 7 0 0 0 7 [])
     ∷ plays (tree 3) 0 (answer 10 7 0 0 0 6 [])
+    -- document 02, §3: the whole length for a limit on one side, on both; one past it
+    ∷ plays (limited-pair 1 0) 46 (answer 0 4 46 4 2 3 pair-log)
+    ∷ plays (limited-pair 1 1) 46 (answer 0 4 46 4 2 3 pair-log)
+    ∷ plays (limited-pair 0 2) 46 (answer 10 3 0 0 0 2 (replicate 46 0))
     -- three outputs (literals 12 14 16), offset 1: if and only-if of 2, if and only-if of 3
     ∷ steps-to window 252 15 (some ((1 · 14 ∷ 1 · 17 ∷ []) ≥ 1))
     ∷ steps-to window 252 16 (some ((1 · 16 ∷ []) ≥ 0))
