@@ -92,13 +92,13 @@ impl Desk {
     }
 }
 
-/// The side with no limit that hides nothing: offset 0 with the whole length (document 02, §3).
+/// A side as it joins: limit 0 for the whole length at offset 0, which hides nothing (document 02, §3).
 fn plain_form(side: Side, counters: &Counters) -> Side {
     let hides_nothing = side.offset == 0 && side.limit == counters.length_of(side.node);
     Side { limit: if hides_nothing { 0 } else { side.limit }, ..side }
 }
 
-/// The command that rustsat is run on for it.
+/// The command that rustsat is given: a join's sides as they join.
 fn for_rustsat(command: Command, counters: &Counters) -> Command {
     match command {
         Command::Join(left, right) => Command::Join(plain_form(left, counters), plain_form(right, counters)),

@@ -39,11 +39,11 @@ use Rattle.player.proofs.Sound.{sound-start, sound-act}
 
 -- ---- a side, over nodes that t and a longer table u have alike
 
-module _ (t u : List Node) (alike : (n : ℕ) → n < length t → nodeAt u n ≡ nodeAt t n) where
-  same-node : {s a : Side} → DropsSide u s a → a .node ≡ s .node
-  same-node (dropped p q) = refl
-  same-node kept = refl
+same-node : {u : List Node} {s a : Side} → DropsSide u s a → a .node ≡ s .node
+same-node (dropped p q) = refl
+same-node kept = refl
 
+module _ (t u : List Node) (alike : (n : ℕ) → n < length t → nodeAt u n ≡ nodeAt t n) where
   whole-here : (s : Side) → s .limit ≡ len (nodeAt u (s .node)) → s .node < length t → s .limit ≡ len (nodeAt t (s .node))
   whole-here s q i = omega (arith, q, ap len (alike (s .node) i))
 
@@ -63,7 +63,7 @@ module _ (t u : List Node) (alike : (n : ℕ) → n < length t → nodeAt u n �
 
 -- ---- a command, in the state s
 
-module _ (h : Head) (capacity : ℕ) (u : List Node) (s : State) (alike : (n : ℕ) → n < length (s .nodes) → nodeAt u n ≡ nodeAt (s .nodes) n) where
+module _ (h : Head) (u : List Node) (s : State) (alike : (n : ℕ) → n < length (s .nodes) → nodeAt u n ≡ nodeAt (s .nodes) n) where
   same-questions : {c d : Command} → DropsCommand u c d → firstNo (questions h (s .nodes) d) ≡ firstNo (questions h (s .nodes) c)
   same-questions unchanged = refl
   same-questions (in-join {l} {r} {a} {b} x y) = by (ltb (l .node) (length (s .nodes))) (ltb (r .node) (length (s .nodes))) refl refl
@@ -75,11 +75,11 @@ module _ (h : Head) (capacity : ℕ) (u : List Node) (s : State) (alike : (n : �
           rw (
             same-fits (s .nodes) u alike x (ltb-true (l .node) (length (s .nodes)) e),
             same-fits (s .nodes) u alike y (ltb-true (r .node) (length (s .nodes)) f),
-            same-node (s .nodes) u alike x,
-            same-node (s .nodes) u alike y,
+            same-node x,
+            same-node y,
           )
-      by true false e f = unfold questions firstNo in rw (same-node (s .nodes) u alike x, same-node (s .nodes) u alike y, e, f)
-      by false j e f = unfold questions firstNo in rw (same-node (s .nodes) u alike x, e)
+      by true false e f = unfold questions firstNo in rw (same-node x, same-node y, e, f)
+      by false j e f = unfold questions firstNo in rw (same-node x, e)
 
   same-act : {c d : Command} → DropsCommand u c d → firstNo (questions h (s .nodes) c) ≡ 0 → act d s ≡ act c s
   unfolding act joined
@@ -91,8 +91,8 @@ module _ (h : Head) (capacity : ℕ) (u : List Node) (s : State) (alike : (n : �
       ap (λ (z : Node). make z (len z) s)
       (ap (λ (z : Side). joinOf t o z (plainForm t b)) (same-form t u alike x (there .0)) ∙ ap (joinOf t o (plainForm t l)) (same-form t u alike y (there .1)))
 
-  same-play : {c d : Command} → DropsCommand u c d → play h capacity d s ≡ play h capacity c s
-  same-play {c} {d} x = by (firstNo (questions h (s .nodes) c)) refl
+  same-play : (capacity : ℕ) {c d : Command} → DropsCommand u c d → play h capacity d s ≡ play h capacity c s
+  same-play capacity {c} {d} x = by (firstNo (questions h (s .nodes) c)) refl
     where
       by : (n : ℕ) → firstNo (questions h (s .nodes) c) ≡ n → play h capacity d s ≡ play h capacity c s
       by zero q = unfold play in rw (same-questions x ∙ q, q, play) (ap (fitted capacity) (same-act x q))
@@ -201,7 +201,7 @@ module _ (h : Head) (capacity : ℕ) (u : List Node) where
       ∙ ap (λ (z : Commands). goesOn h capacity z p s) (sym (on .2))
     where
       go-same : play h capacity d s ≡ play h capacity c s
-      go-same = same-play h capacity u s (node-kept (c ∷ cs) (s .nodes) (s .next-variable) is) x
+      go-same = same-play h u s (node-kept (c ∷ cs) (s .nodes) (s .next-variable) is) capacity x
 
       by : (r : Result) → play h capacity c s ≡ r → (ys zs : Commands)
           → ((v : State) → Sound h v → u ≡ build cs (v .nodes) (v .next-variable) → goesOn h capacity zs (suc p) v ≡ goesOn h capacity ys (suc p) v)
@@ -223,8 +223,8 @@ module _ (h : Head) (capacity : ℕ) (u : List Node) where
   same-passed pointwise-nil sound is all-done = all-done
   same-passed {s = s} (pointwise-cons {x = c} {y = d} {xs = cs} {ys = ds} x xs) sound is (all-more {u = w} q r) =
       let alike = node-kept (c ∷ cs) (s .nodes) (s .next-variable) is in
-      let asked = sym (same-questions h capacity u s alike x) ∙ q .asked in
-      let after = sym (same-act h capacity u s alike x asked) ∙ q .after in
+      let asked = sym (same-questions h u s alike x) ∙ q .asked in
+      let after = sym (same-act h u s alike x asked) ∙ q .after in
       all-more (record { asked = asked; after = after; fits = q .fits })
       (same-passed xs (subst (Sound h) after (sound-act h c s asked sound))
       (is ∙ sym (build-act h c cs s asked sound) ∙ ap (λ (z : State). build cs (z .nodes) (z .next-variable)) after) r)

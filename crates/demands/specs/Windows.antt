@@ -37,7 +37,8 @@ pub record DropsLimits (bs other : List ℕ) : Type 0 where
   pub drops : Pointwise (DropsCommand (table head own)) own others
   pub is : other ≡ scriptBytes head others ++ rest
 
--- "Offset 0 with limit equal to the length now joins as a plain side, and the log is that of the same script with limit 0."
+-- "Offset 0 with limit equal to the length now joins as a plain side, and the log is that of the same script with limit 0." (Which side a join has is said
+-- of its node: `MakesNode`, in `Demand2`.)
 pub record HidesNothing : Type 0 where
   -- All six numbers and the log are the same, whether the script is accepted or not, for every length of the log, unless question 1 tells the two
   -- apart by their own lengths.
