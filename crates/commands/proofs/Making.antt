@@ -9,6 +9,7 @@ use Rattle.pb.specs.Sum.{variable}
 use Rattle.sizes.specs.Sizes.{mostLeaves, mostVariable}
 use Rattle.totdb.specs.Nodes.{Node, leaf, joined, nodeAt, leaves, len, known, leafCount, plainForm, sideLen, sideLeaves}
 use Rattle.totdb.specs.declared.Side.{Side}
+use Rattle.totdb.proofs.Leaves.{leafCount-leaf, leafCount-join}
 use Rattle.cert.specs.State.{State, Head}
 use Rattle.cert.proofs.Tables.{at-last, length-snoc}
 use Rattle.rows.specs.Rows.{Table}
@@ -19,7 +20,7 @@ use Rattle.player.specs.Player.{firstNo, questions, act, make, accepted}
 use Rattle.player.specs.declared.Command.{Command}
 use Rattle.player.proofs.Formed.{formed-act, head-low}
 use Rattle.player.proofs.Sound.{JoinFits, join-fits, sideLeaves-length, plain-sideLen}
-use Rattle.player.proofs.Tree.{few-nodes, few-variables, leafCount-leaf, leafCount-join, treed-act}
+use Rattle.player.proofs.Tree.{few-nodes, few-variables, treed-act}
 use Rattle.player.proofs.Refusal.{play-goes}
 use Rattle.commands.specs.Standing.{Standing, Room, Played, went}
 use Rattle.commands.specs.declared.CommandEnd.{CommandEnd}

@@ -1,47 +1,29 @@
 -- The table with a leaf more, and with a join more.
 use mathlib.Core.Path.{_≡_, refl, sym, ap, _∙_}
 use mathlib.Core.Bool.{Bool, true, false, cond, _||_}
-use mathlib.Core.List.{List, [], _∷_, _++_, append-assoc}
-use Prim.Native.Nat.{ℕ, suc, _+_, _-_, _≤_, _<_}
+use mathlib.Core.List.{List, [], _∷_, _++_, map, append-assoc}
+use Prim.Native.Nat.{ℕ, _+_, _-_, _≤_, _<_}
 use native.Mathlib.Omega.{arith}
 use lib.Dec.{eqb}
-use lib.ListN.{length, set, take, replicate, length-set, length-append, length-take, length-drop, length-replicate}
-use lib.Seq.{paste, length-paste, take-set-le, take-suc-set, take-append-seam, set-getD}
-use Rattle.sizes.specs.Sizes.{mostLeaves, width, row, rowAt, takenColumn, takenAt}
-use Rattle.totdb.specs.Nodes.{Node, leaf, join, nodeAt, len, leaves, output, sideLen, sideLeaves, joinOf, plainForm, leafCount, isOver, taken}
+use lib.ListN.{length, getD, set, take, replicate, length-set, length-append, length-take, length-drop, length-replicate}
+use lib.Seq.{paste, length-paste, getD-set-other, take-append-seam, set-getD}
+use Rattle.sizes.specs.Sizes.{mostLeaves, width, leafNodes, nodesStart, row, rowAt, takenColumn, takenAt}
+use Rattle.totdb.specs.Nodes.{Node, leaf, join, nodeAt, len, leaves, output, range, sideLen, sideLeaves, joinOf, plainForm, leafCount, isOver, taken}
+use Rattle.totdb.specs.Leaves.{LeafEntry}
 use Rattle.totdb.specs.declared.Side.{Side}
+use Rattle.totdb.proofs.Leaves.{leafCount-leaf, leafCount-join, leafTable-leaf, leafTable-join}
 use Rattle.totdb.proofs.Sides.{plain-length}
 use Rattle.cert.specs.Sized.{Fit}
 use Rattle.cert.proofs.Rules.{sideLen-more}
 use Rattle.cert.proofs.Tables.{at-last, length-snoc, side-some, taken-snoc}
 use Rattle.rows.specs.Windows.{left-at, right-at}
-use Rattle.rows.specs.Rows.{rowOf, KindOf, Row, leafColumn, Bounded, Table}
+use Rattle.rows.specs.Rows.{rowOf, KindOf, Row, readLeaf, Bounded, Table}
 use Rattle.rows.proofs.Sides.{window-own}
 use Rattle.rows.proofs.Growing.{SidesOf, bounded-snoc, taken-last, table-snoc}
 use Rattle.nodes.specs.Added.{Leafable, Joinable, Sided, leafNumbers, joinNumbers}
-use Rattle.nodes.proofs.Placing.{put-below, put-start, put-here, leaf-kept, mark-other, marks-are}
+use Rattle.nodes.proofs.Placing.{put-below, put-before, put-here, row-kept, mark-other, marks-are}
+use Rattle.nodes.proofs.Leaves.{leaves-agree, leaves-more}
 use Rattle.nodes.proofs.Literals.{side-count}
-
--- ---- the leaves
-
-count-leaf : (t : List Node) (l : ℕ) → leafCount (t ++ (leaf l ∷ [])) ≡ suc (leafCount t)
-unfolding leafCount
-count-leaf [] l = refl
-count-leaf (leaf m ∷ t) l = ap suc (count-leaf t l)
-count-leaf (join m o a b ∷ t) l = count-leaf t l
-
-literals-leaf : (t : List Node) (l : ℕ) → leafColumn (t ++ (leaf l ∷ [])) ≡ leafColumn t ++ (l ∷ [])
-unfolding leafColumn
-literals-leaf [] l = refl
-literals-leaf (leaf m ∷ t) l = ap (λ (x : List ℕ). m ∷ x) (literals-leaf t l)
-literals-leaf (join m o a b ∷ t) l = literals-leaf t l
-
-same-join : (t : List Node) (m : List ℕ) (v : ℕ) (l r : Side)
-    → (leafCount (t ++ (join m v l r ∷ [])) ≡ leafCount t) × (leafColumn (t ++ (join m v l r ∷ [])) ≡ leafColumn t)
-unfolding leafCount leafColumn
-same-join [] m v l r = (refl, refl)
-same-join (leaf a ∷ t) m v l r = let h = same-join t m v l r in (ap suc (h .0), ap (λ (x : List ℕ). a ∷ x) (h .1))
-same-join (join k o a b ∷ t) m v l r = same-join t m v l r
 
 -- ---- the row before, by what is under a join
 
@@ -89,7 +71,7 @@ module _ {ns : List ℕ} {t : List Node} {n k l : ℕ} (j : Leafable ns t n k l)
       let next : length t ≡ n = j .next in
       bounded-snoc t (leaf l) (j .table .bounded) (record {
         few = omega (arith, j .room);
-        few-leaves = rw (count-leaf t l, j .leaves) (j .few);
+        few-leaves = omega (arith, leafCount-leaf t l, j .leaves, j .few);
         short = omega arith;
         low = λ i a b. j .low;
         fit = tt;
@@ -106,19 +88,22 @@ module _ {ns : List ℕ} {t : List Node} {n k l : ℕ} (j : Leafable ns t n k l)
     list = refl;
   }
 
-  pub table-leaf : rowAt (n + 1) ≤ length ns → Table (set (paste ns (rowAt n) (leafNumbers l) row) k l) with-leaf
+  pub table-leaf : rowAt (n + 1) ≤ length ns → Table (set (set (paste ns (rowAt n) (leafNumbers l) row) k l) (leafNodes + k) n) with-leaf
   table-leaf room =
       let next : length t ≡ n = j .next in
       let few : k < mostLeaves = j .few in
       let inside : rowAt n + row ≤ length ns = omega arith in
       let ms : List ℕ = paste ns (rowAt n) (leafNumbers l) row in
       let long : length ms ≡ length ns = length-paste ns (rowAt n) (leafNumbers l) row inside (omega arith) in
-      table-snoc t (leaf l) (j .table .bounded) bounded-leaf ns (set ms k l) (j .table .has)
-      (omega (arith, length-set ms k l))
-      (λ i h. leaf-kept ms k l i few ∙ put-below ns n (leafNumbers l) inside i (omega arith) ∙ same-leaf (j .table) i h l)
-      (rw (leaf-kept ms k l (length t) few, next, put-here ns n (leafNumbers l) inside refl) (rw next at row-leaf))
-      (rw (count-leaf t l, literals-leaf t l, j .leaves, take-suc-set ms k l (omega arith), put-start ns n (leafNumbers l) inside k (omega arith))
-      (ap (λ (x : List ℕ). x ++ (l ∷ [])) (ap (λ (i : ℕ). take i ns) (sym (j .leaves)) ∙ j .table .has .leaves)))
+      let kept : (i : ℕ) → rowOf (set (set ms k l) (leafNodes + k) n) i ≡ rowOf ms i = λ i. row-kept (set ms k l) (leafNodes + k) n i (omega arith) ∙ row-kept ms k l i (omega arith) in
+      table-snoc t (leaf l) (j .table .bounded) bounded-leaf ns (set (set ms k l) (leafNodes + k) n) (j .table .has)
+      (omega (arith, length-set ms k l, length-set (set ms k l) (leafNodes + k) n))
+      (λ i h. kept i ∙ put-below ns n (leafNumbers l) inside i (omega arith) ∙ same-leaf (j .table) i h l)
+      (rw (kept (length t), next, put-here ns n (leafNumbers l) inside refl) (rw next at row-leaf))
+      (rw (leafCount-leaf t l, leafTable-leaf t l, j .leaves, next)
+      (leaves-more ms k l n few (omega arith) ∙ ap (λ (es : List LeafEntry). es ++ (record { literal = l; node = n } ∷ []))
+      (leaves-agree ns ms k (λ i h. (put-before ns n (leafNumbers l) inside i (omega arith), put-before ns n (leafNumbers l) inside (leafNodes + i) (omega arith)))
+      ∙ ap (λ (i : ℕ). map (readLeaf ns) (range 0 i)) (sym (j .leaves)) ∙ j .table .has .leaves)))
 
 -- ---- a join
 
@@ -180,7 +165,7 @@ module _ {ns : List ℕ} {t : List Node} {n v : ℕ} {l r : Side} (j : Joinable 
       let short : length both ≤ width = omega (arith, both-long, j .short) in
       bounded-snoc t (join both v l r) (j .table .bounded) (record {
         few = omega (arith, j .room);
-        few-leaves = rw (same-join t both v l r .0) (j .table .bounded .few-leaves);
+        few-leaves = omega (arith, leafCount-join t both v l r, j .table .bounded .few-leaves);
         short = short;
         low = λ i a b. omega (arith, j .low);
         fit = (
@@ -242,6 +227,8 @@ module _ {ns : List ℕ} {t : List Node} {n v : ℕ} {l r : Side} (j : Joinable 
       let left : l .node < n = omega (arith, j .left) in
       let right : r .node < n = omega (arith, j .right) in
       let few : leafCount t ≤ mostLeaves = j .table .bounded .few-leaves in
+      let before : (i : ℕ) → i < nodesStart → getD (set first (takenAt (r .node)) 1) i 0 ≡ getD ns i 0 = λ i h. getD-set-other first (takenAt (r .node)) i 1 0 (λ e. omega arith)
+      ∙ getD-set-other ms (takenAt (l .node)) i 1 0 (λ e. omega arith) ∙ put-before ns n new-row inside i (omega arith) in
       table-snoc t (join both v l r) (j .table .bounded) bounded-join ns (set first (takenAt (r .node)) 1) (j .table .has)
       (omega (arith, length-set first (takenAt (r .node)) 1, length-set ms (takenAt (l .node)) 1))
       (λ i h. same-marks (j .table) i h ms both v l r (put-below ns n new-row inside i (omega arith)))
@@ -251,7 +238,5 @@ module _ {ns : List ℕ} {t : List Node} {n v : ℕ} {l r : Side} (j : Joinable 
         mark-other ms (l .node) 1 n (λ e. omega arith),
         put-here ns n new-row inside new-long,
       ) row-join)
-      (rw (same-join t both v l r .0, same-join t both v l r .1)
-      (take-set-le (leafCount t) first (takenAt (r .node)) 1 (omega arith)
-      ∙ take-set-le (leafCount t) ms (takenAt (l .node)) 1 (omega arith)
-      ∙ put-start ns n new-row inside (leafCount t) (omega arith) ∙ j .table .has .leaves))
+      (rw (leafCount-join t both v l r, leafTable-join t both v l r)
+      (leaves-agree ns (set first (takenAt (r .node)) 1) (leafCount t) (λ i h. (before i (omega arith), before (leafNodes + i) (omega arith))) ∙ j .table .has .leaves))

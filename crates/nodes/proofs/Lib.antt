@@ -2,6 +2,7 @@
 pub mod Copying
 pub mod Having
 pub mod Placing
+pub mod Leaves
 pub mod Literals
 pub mod Adding
 pub mod Joining

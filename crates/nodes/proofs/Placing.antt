@@ -9,8 +9,8 @@ use native.Mathlib.Omega.{arith}
 use borrow.Author.Tests.{eq-eqb, ne-eqb}
 use lib.Dec.{eqb}
 use lib.ListN.{length, getD, set, take, drop}
-use lib.Seq.{paste, take-at, drop-at, take-all, take-take, length-take-le, take-set-le, take-set-lt, drop-set-lt, drop-set-add, set-getD, set-set, getD-set-same}
-use Rattle.sizes.specs.Sizes.{mostLeaves, row, rowAt, takenColumn, takenAt}
+use lib.Seq.{paste, take-at, drop-at, take-all, getD-take, length-take-le, take-set-le, take-set-lt, drop-set-lt, drop-set-add, set-getD, set-set, getD-set-same}
+use Rattle.sizes.specs.Sizes.{nodesStart, row, rowAt, takenColumn, takenAt}
 use Rattle.rows.specs.Rows.{rowOf}
 use Rattle.rows.proofs.Reading.{part-take}
 
@@ -33,9 +33,9 @@ module _ (ns : List ℕ) (n : ℕ) (r : List ℕ) (inside : rowAt n + row ≤ le
   pub put-below : (i : ℕ) → i < n → rowOf (paste ns (rowAt n) r row) i ≡ rowOf ns i
   put-below i h = part-kept (rowAt n) ns (paste ns (rowAt n) r row) before (rowAt i) row (omega arith)
 
-  pub put-start : (k : ℕ) → k ≤ rowAt n → take k (paste ns (rowAt n) r row) ≡ take k ns
-  put-start k h =
-      sym (take-take k (rowAt n) (paste ns (rowAt n) r row) h) ∙ ap (take k) before ∙ take-take k (rowAt n) ns h
+  pub put-before : (i : ℕ) → i < rowAt n → getD (paste ns (rowAt n) r row) i 0 ≡ getD ns i 0
+  put-before i h =
+      sym (getD-take (rowAt n) (paste ns (rowAt n) r row) i 0 h) ∙ ap (λ (l : List ℕ). getD l i 0) before ∙ getD-take (rowAt n) ns i 0 h
 
   pub put-here : length r ≡ row → rowOf (paste ns (rowAt n) r row) n ≡ r
   put-here e =
@@ -45,8 +45,8 @@ module _ (ns : List ℕ) (n : ℕ) (r : List ℕ) (inside : rowAt n + row ≤ le
 
 -- ---- a number before the rows
 
-pub leaf-kept : (ns : List ℕ) (k l i : ℕ) → k < mostLeaves → rowOf (set ns k l) i ≡ rowOf ns i
-leaf-kept ns k l i h = ap (take row) (drop-set-lt (rowAt i) ns k l (omega arith))
+pub row-kept : (ns : List ℕ) (k l i : ℕ) → k < nodesStart → rowOf (set ns k l) i ≡ rowOf ns i
+row-kept ns k l i h = ap (take row) (drop-set-lt (rowAt i) ns k l (omega arith))
 
 -- ---- the number that says whether a node stands under a join
 

@@ -1,4 +1,5 @@
-// The table of the nodes: what it has, and a leaf or a join added to it.
+// The table of the nodes: what it has, a leaf looked up in it, and a leaf or a join added to it.
+use totdb::LeafLookup;
 use totdb::Side;
 ghost use mathlib.Core.Path.{_≡_};
 ghost use mathlib.Core.List.{List, [], _∷_, _++_};
@@ -7,22 +8,31 @@ ghost use lib.ListN.{length, set};
 ghost use lib.Seq.{paste, sets};
 ghost use Rattle.sizes.specs.Sizes.{row, rowAt, takenAt, width, mostNodes, mostVariable};
 ghost use Rattle.totdb.specs.Nodes.{Node, leaf, nodeAt, len, joinOf, joined, part, plainOr, plainForm, sideLen, sideLeaves, leafCount};
+ghost use Rattle.totdb.specs.Leaves.{lookupLeaf};
 ghost use Rattle.rows.specs.Rows.{Table};
 ghost use Rattle.nodes.specs.Added.{Leafable, Joinable, Sided, Small, leafNumbers, sideNumbers, joinNumbers};
 
-// A leaf has the literal. `count` is the number of leaves; the newest comes first.
-pub fn known(nodes: &[u32], count: usize, literal: u32) -> bool
+// The lookup of a leaf by its literal, from the last made to the first. `count` is the number of leaves.
+pub fn lookup_leaf(nodes: &[u32], count: usize, literal: u32) -> LeafLookup
     requires { ⌜ ((t : List Node) × Table (now nodes) t × (leafCount t ≡ count)) ⌝ }
-    ensures { λ r. ⌜ ((t : List Node) → Table (now (nodes .entry)) t → leafCount t ≡ count → r ≡ Rattle.totdb.specs.Nodes.known t literal) ⌝ }
+    ensures { λ r. ⌜ ((t : List Node) → Table (now (nodes .entry)) t → leafCount t ≡ count → r ≡ lookupLeaf t literal) ⌝ }
 {
     let mut i = count;
     while 0 < i {
         i = i - 1;
         if nodes[i] == literal {
-            return true;
+            return LeafLookup::Found(rows::number_at(nodes, sizes::LEAF_NODES + i), count - i);
         }
     }
-    false
+    LeafLookup::Missing(count)
+}
+
+// A leaf has the literal.
+pub fn known(nodes: &[u32], count: usize, literal: u32) -> bool
+    requires { ⌜ ((t : List Node) × Table (now nodes) t × (leafCount t ≡ count)) ⌝ }
+    ensures { λ r. ⌜ ((t : List Node) → Table (now (nodes .entry)) t → leafCount t ≡ count → r ≡ Rattle.totdb.specs.Nodes.known t literal) ⌝ }
+{
+    lookup_leaf(nodes, count, literal).is_found()
 }
 
 // A node stands under a join.
@@ -73,6 +83,7 @@ pub fn add_leaf(nodes: &mut [u32], n: usize, k: usize, literal: u32)
     let r = leaf_row(literal);
     put_row(nodes, n, &r);
     nodes[k] = literal;
+    nodes[sizes::LEAF_NODES + k] = n as u32;
 }
 
 // The length of a side.

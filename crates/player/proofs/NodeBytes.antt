@@ -9,6 +9,7 @@ use Rattle.sizes.specs.Sizes.{leafBytes, joinBytes}
 use Rattle.number.specs.Number.{groups, Front, number, bad, read}
 use Rattle.number.proofs.Laws.{readIn-rest}
 use Rattle.totdb.specs.Nodes.{Node, leaf, joined, known, leafCount}
+use Rattle.totdb.proofs.Leaves.{leafCount-leaf, leafCount-join}
 use Rattle.cert.specs.State.{State, Head, start, serve, requests}
 use Rattle.cert.proofs.Apart.{sized-ok}
 use Rattle.cert.proofs.Tables.{length-snoc}
@@ -18,7 +19,6 @@ use Rattle.player.specs.Script.{Next, command, refuse, get, arguments, r
 use Rattle.player.specs.declared.Command.{Command}
 use Rattle.player.proofs.Refusal.{play-passed}
 use Rattle.player.proofs.Sound.{serve-nodes, requests-asked, request-fits}
-use Rattle.player.proofs.Tree.{leafCount-leaf, leafCount-join}
 
 -- ---- a command
 

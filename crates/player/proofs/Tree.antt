@@ -14,6 +14,7 @@ use Rattle.sizes.specs.Sizes.{mostLeaves, width}
 use Rattle.pb.specs.Sum.{variable}
 use Rattle.totdb.specs.Nodes.{Node, taken, nodeAt, any, isOver, join, leaf, leafCount, len, known, leaves, joinOf, joined, sideLeaves, sideLen}
 use Rattle.totdb.specs.declared.Side.{Side}
+use Rattle.totdb.proofs.Leaves.{leafCount-leaf, leafCount-join}
 use Rattle.cert.specs.State.{State, start, requests, serve, Head}
 use Rattle.cert.proofs.Apart.{sized-ok}
 use Rattle.cert.proofs.Rules.{Ok, Below, at-more}
@@ -156,18 +157,6 @@ module _ (w : Node → ℕ) (t : List Node) (ls : List ℕ) (o : ℕ) (l r : Sid
 pub treed-start : (h : Head) → Treed h (start h)
 unfolding start leafCount free sumTo
 treed-start h = record { few = omega arith; short = omega arith; each = λ n h. absurd (omega arith); low = omega arith; paired = refl }
-
-pub leafCount-leaf : (t : List Node) (l : ℕ) → leafCount (t ++ (leaf l ∷ [])) ≡ leafCount t + 1
-unfolding leafCount
-leafCount-leaf [] l = refl
-leafCount-leaf (leaf m ∷ t) l = omega (arith, leafCount-leaf t l)
-leafCount-leaf (join ls o a b ∷ t) l = leafCount-leaf t l
-
-pub leafCount-join : (t : List Node) (ls : List ℕ) (o : ℕ) (l r : Side) → leafCount (t ++ (join ls o l r ∷ [])) ≡ leafCount t
-unfolding leafCount
-leafCount-join [] ls o l r = refl
-leafCount-join (leaf m ∷ t) ls o l r = ap suc (leafCount-join t ls o l r)
-leafCount-join (join ms p a b ∷ t) ls o l r = leafCount-join t ls o l r
 
 treed-leaf : (h : Head) (l : ℕ) (s : State) → firstNo (questions h (s .nodes) (Command.Leaf l)) ≡ 0 → known (s .nodes) l ≡ false → Sound h s
     → Treed h s → Treed h (make (leaf l) 0 s)

@@ -2,7 +2,7 @@
 use mathlib.Core.Path.{_≡_, refl, sym, ap, subst, _∙_}
 use mathlib.Core.Bool.{Bool, true, false, cond}
 use mathlib.Core.Logic.{_≢_, ⊎-elim}
-use mathlib.Core.List.{List, [], _∷_, _++_}
+use mathlib.Core.List.{List, [], _∷_, _++_, map}
 use Prim.Native.Nat.{ℕ, zero, suc, _+_, _^_, _≤_, _<_}
 use native.Mathlib.Omega.{arith}
 use borrow.Author.Tests.{eq-eqb, ne-eqb}
@@ -10,14 +10,15 @@ use lib.Dec.{eqb}
 use lib.ListN.{length, getD, set, take, length-take, length-drop}
 use lib.Seq.{getD-set-same, getD-set-other, drop-set-lt}
 use Rattle.sizes.specs.Sizes.{mostLeaves, mostNodes, width, rowAt, lengthColumn, firstColumn, kindColumn, takenColumn, leftColumn, rightColumn, listColumn, sideLenColumn, sideWindowColumn, leftAt, rightAt, leftWindow, rightWindow}
-use Rattle.totdb.specs.Nodes.{Node, leaf, join, nodeAt, len, output, leafCount, any, isOver, taken}
+use Rattle.totdb.specs.Nodes.{Node, leaf, join, nodeAt, len, output, range, leafCount, any, isOver, taken}
+use Rattle.totdb.specs.Leaves.{leafTable}
 use Rattle.totdb.specs.declared.Side.{Side}
 use Rattle.cert.specs.Sized.{Sized, Fit}
 use Rattle.cert.proofs.Distinct.{true≢false, or-right}
 use Rattle.cert.proofs.Rules.{at-more, sideLen-more}
 use Rattle.cert.proofs.Tables.{at-snoc, length-snoc, old-or-new, sized-snoc, over-left}
 use Rattle.rows.specs.Windows.{SideAt, left-at, right-at}
-use Rattle.rows.specs.Rows.{rowOf, SideRow, KindOf, Row, leafColumn, NodesIn, Bounded, Table}
+use Rattle.rows.specs.Rows.{rowOf, SideRow, KindOf, Row, readLeaf, NodesIn, Bounded, Table}
 use Rattle.rows.proofs.Sides.{side-inside, window-own}
 
 -- ---- any element of a list
@@ -181,7 +182,7 @@ module _ (t : List Node) (x : Node) (b : Bounded t) (b′ : Bounded (t ++ (x ∷
   pub table-snoc : (ns ms : List ℕ) → NodesIn ns t → rowAt (length t + 1) ≤ length ms
       → ((n : ℕ) → n < length t → rowOf ms n ≡ set (rowOf ns n) takenColumn (cond (taken (t ++ (x ∷ [])) n) 1 0))
       → Row (rowOf ms (length t)) (t ++ (x ∷ [])) (length t) x
-      → take (leafCount (t ++ (x ∷ []))) ms ≡ leafColumn (t ++ (x ∷ [])) → Table ms (t ++ (x ∷ []))
+      → map (readLeaf ms) (range 0 (leafCount (t ++ (x ∷ [])))) ≡ leafTable (t ++ (x ∷ [])) → Table ms (t ++ (x ∷ []))
   table-snoc ns ms has room same here leaves = record {
     has = record {
       room = rw (length-snoc t x) room;

@@ -1,11 +1,12 @@
 -- The table of the nodes: what its numbers say of a list of nodes, and what holds of these nodes alone.
 use mathlib.Core.Path.{_≡_}
 use mathlib.Core.Bool.{cond}
-use mathlib.Core.List.{List, [], _∷_}
+use mathlib.Core.List.{List, map}
 use Prim.Native.Nat.{ℕ, _+_, _^_, _≤_, _<_}
 use lib.ListN.{length, getD, take, drop}
-use Rattle.sizes.specs.Sizes.{mostLeaves, mostNodes, width, row, rowAt, lengthColumn, firstColumn, kindColumn, takenColumn, leftColumn, rightColumn, listColumn, sideLenColumn, sideWindowColumn, firstAt, leftAt, rightAt}
-use Rattle.totdb.specs.Nodes.{Node, leaf, join, nodeAt, len, leaves, output, sideLen, leafCount, taken}
+use Rattle.sizes.specs.Sizes.{mostLeaves, mostNodes, width, leafNodes, row, rowAt, lengthColumn, firstColumn, kindColumn, takenColumn, leftColumn, rightColumn, listColumn, sideLenColumn, sideWindowColumn, firstAt, leftAt, rightAt}
+use Rattle.totdb.specs.Nodes.{Node, leaf, join, nodeAt, len, leaves, output, range, sideLen, leafCount, taken}
+use Rattle.totdb.specs.Leaves.{LeafEntry, leafTable}
 use Rattle.totdb.specs.declared.Side.{Side}
 use Rattle.cert.specs.Sized.{Sized}
 use Rattle.rows.specs.Windows.{SideAt, windowAt}
@@ -41,17 +42,15 @@ pub record Row (r : List ℕ) (t : List Node) (n : ℕ) (x : Node) : Type 0 wher
 
 -- ---- the table
 
--- The literals of the leaves, in the order of their making.
-unfoldable pub leafColumn : List Node → List ℕ
-leafColumn [] = []
-leafColumn (leaf l ∷ t) = l ∷ leafColumn t
-leafColumn (join ls o a b ∷ t) = leafColumn t
+-- The leaf that was made after k others.
+abbrev pub readLeaf : List ℕ → ℕ → LeafEntry
+readLeaf ns k = record { literal = getD ns k 0; node = getD ns (leafNodes + k) 0 }
 
 -- The table has the nodes t. Other numbers are left open: the sides of a leaf, what stands after a list, rows after those of t.
 pub record NodesIn (ns : List ℕ) (t : List Node) : Type 0 where
   pub room : rowAt (length t) ≤ length ns
   pub row : (n : ℕ) → n < length t → Row (rowOf ns n) t n (nodeAt t n)
-  pub leaves : take (leafCount t) ns ≡ leafColumn t
+  pub leaves : map (readLeaf ns) (range 0 (leafCount t)) ≡ leafTable t
 
 -- What holds of the nodes alone. Each stands under one side at most. `low` keeps a literal, and the witness made of it (plus 1), in a u32.
 pub record Bounded (t : List Node) : Type 0 where

@@ -36,7 +36,7 @@ pub fn row_at(node: usize) -> usize
     requires { ⌜ node < 4294967296 ⌝ }
     ensures { λ r. ⌜ r ≡ rowAt node ⌝ }
 {
-    sizes::MOST_LEAVES + sizes::ROW * node
+    sizes::NODES_START + sizes::ROW * node
 }
 
 // The side whose five numbers stand at `at`.

@@ -53,13 +53,20 @@ stepStop = mostHead + mostBytes
 abbrev pub mostVariable : ℕ
 mostVariable = mostHead + mostJoins * width
 
--- ---- the table of the nodes: the literals of the leaves in the order of their making, then a row for each node
+-- ---- the table of the nodes: of the leaves in the order of their making the literals, then the node numbers; then a row for each node
+
+abbrev pub leafNodes : ℕ
+leafNodes = mostLeaves
+
+-- The place of the first row.
+abbrev pub nodesStart : ℕ
+nodesStart = 2 * mostLeaves
 
 abbrev pub row : ℕ
 row = 78
 
 abbrev pub rowAt : ℕ → ℕ
-rowAt n = mostLeaves + row * n
+rowAt n = nodesStart + row * n
 
 -- In a row: the length; the output of value 1; 1 for a join, 0 for a leaf; 1 if it stands under a join, else 0; the left side; the right
 -- side; the leaf list.

@@ -35,7 +35,13 @@ pub const WIDTH: usize = MOST_LEAVES;
 // The counters of steps and of clauses stop here. No log reaches it: a step takes two bytes at least.
 pub const STEP_STOP: u32 = MOST_HEAD + MOST_BYTES as u32;
 
-// ---- the table of the nodes: the literals of the leaves in the order of their making, then a row for each node
+// ---- the table of the nodes: of the leaves in the order of their making the literals, then the node numbers; then a row for each
+// node
+
+pub const LEAF_NODES: usize = MOST_LEAVES;
+
+// The place of the first row.
+pub const NODES_START: usize = 2 * MOST_LEAVES;
 
 pub const ROW: usize = 78;
 
@@ -60,11 +66,11 @@ pub const SIDE_LEN: usize = 3;
 
 pub const SIDE_WINDOW: usize = 4;
 
-pub const NODES_SIZE: usize = MOST_LEAVES + ROW * MOST_NODES;
+pub const NODES_SIZE: usize = NODES_START + ROW * MOST_NODES;
 
-pub const FEW_NODES_SIZE: usize = MOST_LEAVES + ROW * FEW_NODES;
+pub const FEW_NODES_SIZE: usize = NODES_START + ROW * FEW_NODES;
 
-pub const SOME_NODES_SIZE: usize = MOST_LEAVES + ROW * SOME_NODES;
+pub const SOME_NODES_SIZE: usize = NODES_START + ROW * SOME_NODES;
 
 // ---- the store: the places of the stored definitions in the order of their writing, three counters, then a row for each node
 

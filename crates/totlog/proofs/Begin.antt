@@ -9,12 +9,13 @@ use Rattle.sizes.specs.Sizes.{rowAt, marksAt, stepAt, clausesAt, storeAt}
 use Rattle.record.specs.Record.{bytes, steps, clauses}
 use Rattle.record.specs.Writing.{content, buffer, written}
 use Rattle.record.proofs.Writing.{content-in}
-use Rattle.totdb.specs.Nodes.{leafCount}
+use Rattle.totdb.specs.Nodes.{range, leafCount}
+use Rattle.totdb.specs.Leaves.{leafTable}
 use Rattle.cert.specs.Definitions.{Key, real, window-zero, window}
 use Rattle.cert.specs.State.{Head, start, keys, fromIn}
 use Rattle.cert.proofs.Tables.{sized-nil}
 use Rattle.rows.specs.Windows.{SideAt, left-at, right-at}
-use Rattle.rows.specs.Rows.{leafColumn, Table}
+use Rattle.rows.specs.Rows.{Table}
 use Rattle.define.specs.Store.{Used}
 use Rattle.define.specs.Represents.{memory, Exact}
 use Rattle.player.proofs.Formed.{formed-start, head-low}
@@ -38,7 +39,7 @@ table-none ns h = record {
   has = record {
     room = h;
     row = λ n h. absurd (omega arith);
-    leaves = unfold leafCount leafColumn in refl;
+    leaves = unfold leafCount leafTable range in refl;
   };
   bounded = record {
     few = omega arith;
