@@ -6,5 +6,6 @@ pub mod Demand3
 pub mod Needed
 pub mod Fields
 pub mod Windows
+pub mod Leaves
 pub mod Cases
 pub mod Worked

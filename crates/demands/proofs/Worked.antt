@@ -2,13 +2,16 @@
 use mathlib.Core.Path.{_≡_, refl, sym, subst}
 use mathlib.Core.Logic.{inl, inr, ⊎-elim}
 use mathlib.Core.List.{List, [], _∷_, flatMap, List·Memᴰ, List·Memᴰ·head, List·Memᴰ·tail, List·Memᴰ·cases-cons, List·Memᴰ·not-nil}
+use mathlib.Core.Option.{some}
 use Prim.Native.Nat.{ℕ, zero, suc, _≤_}
 use native.Mathlib.Omega.{arith}
 use Rattle.number.specs.Number.{Bytes, readIn, above}
-use lib.ListN.{length}
+use lib.ListN.{length, drop}
 use Rattle.memo.specs.Closure.{SameMembers}
 use Rattle.memo.proofs.Lists.{of-three}
 use Rattle.record.specs.Record.{numbers}
+use Rattle.totdb.specs.Nodes.{leaf}
+use Rattle.totdb.specs.Leaves.{nodeFound, lookupLeaf}
 use Rattle.totdb.specs.declared.Side.{Side}
 use Rattle.cert.specs.Definitions.{if, only-if}
 use Rattle.cert.specs.Requests.{Request, request}
@@ -23,7 +26,8 @@ use Rattle.player.proofs.Runs.{asked, asked-from, asked-has}
 use Rattle.player.proofs.Accepted.{areShort, script-tested, accepted-reached}
 use Rattle.player.proofs.Coding.{areBytes, bytes-tested}
 use Rattle.player.proofs.Fronts.{cons-reads, nil-reads}
-use Rattle.player.proofs.Judged.{verdict-of}
+use Rattle.player.proofs.Judged.{reached-all, verdict-of}
+use Rattle.player.proofs.Matching.{nodes-table}
 use Rattle.demands.specs.Demands.{Alike, Meets1, Meets2, Meets3, Demand1, Demand3}
 use Rattle.demands.specs.Needed.{Acts, NoneUndefined}
 use Rattle.demands.specs.Fields.{FifthGroup, RefusedBy}
@@ -34,6 +38,7 @@ use Rattle.demands.proofs.Demand3.{demand-3}
 use Rattle.demands.proofs.Needed.{desk-card, last-acts, full-acts}
 use Rattle.demands.proofs.Fields.{big-fields}
 use Rattle.demands.proofs.Windows.{reads-more, hides-nothing}
+use Rattle.demands.proofs.Leaves.{from-the-newest}
 
 -- Four leaves; node 4 joins the first two, node 5 that and the third, node 6 node 5 from offset 1 on and the fourth. Of node 6 value 1, if, and value
 -- 2, only-if; of node 5 value 2, if.
@@ -263,4 +268,13 @@ same-refusal =
             drops = pointwise-cons unchanged (pointwise-cons (in-join (dropped refl refl) kept) pointwise-nil);
             is = refl;
           }) (λ _. omega arith),
+    )
+
+-- Document 02, §4, of the first's second leaf.
+pub second-leaf : (reached .0 .nodes ≡ leaf 0 ∷ leaf 2 ∷ drop 2 (table head first-commands)) × (nodeFound (lookupLeaf (reached .0 .nodes) 2) ≡ some 1)
+unfolding head first-commands table
+second-leaf =
+    let nodes = nodes-table head 600 first-commands (reached .0) (reached-all (reached .1) .3) in (
+      nodes,
+      from-the-newest .in-any-order first 600 head first-commands (reached .0) [] (reached .1) (leaf 0 ∷ []) (drop 2 (table head first-commands)) 2 nodes,
     )

@@ -1,14 +1,16 @@
--- The whole case of document 01, its cases marked (P), and those of document 02, §2 and §3, as one list: what the definitions give, and what
+-- The whole case of document 01, its cases marked (P), and those of document 02, §2 to §4, as one list: what the definitions give, and what
 -- the documents say.
 use mathlib.Core.List.{List, [], _∷_, _++_}
 use mathlib.Core.Option.{Option, none, some}
-use Prim.Native.Nat.{ℕ}
+use Prim.Native.Nat.{ℕ, zero, suc, _+_, _*_}
 use lib.ListN.{length, take, replicate}
 use Rattle.number.specs.Number.{Front, number, bad, above, readIn, read}
 use Rattle.pb.specs.Sum.{Sum, _·_, _≥_}
 use Rattle.record.specs.Record.{Record, decodeLog}
 use Rattle.record.specs.Steps.{stepOf, defined}
 use Rattle.totdb.specs.Nodes.{Node}
+use Rattle.totdb.specs.Leaves.{LeafEntry, nodeFound, lookedAt, lookupIn, lookupLeaf}
+use Rattle.totdb.specs.declared.LeafLookup.{LeafLookup}
 use Rattle.cert.specs.Definitions.{if}
 use Rattle.cert.specs.Requests.{Request, request}
 use Rattle.cert.specs.Totalizer.{totalizer, dependencies}
@@ -16,14 +18,15 @@ use Rattle.player.specs.Called.{table}
 use Rattle.player.specs.Player.{played}
 use Rattle.player.specs.Script.{script, headless, readScript}
 
--- What is worked out: an outcome (its six numbers and the log), a number read, what a step of a log comes to, how many sums a log defines, or what a
--- request needs below and its clauses.
+-- What is worked out: an outcome (its six numbers and the log), a number read, what a step of a log comes to, how many sums a log defines, what a
+-- request needs below and its clauses, or which node the lookup of a leaf finds and how many leaves it looks at.
 pub data Value : Type 0 where
   answer : ℕ → ℕ → ℕ → ℕ → ℕ → ℕ → List ℕ → Value
   reading : Front → Value
   comes-to : Option Sum → Value
   sums : Option ℕ → Value
   needed : List Request → List (List ℕ) → Value
+  looked-up : Option ℕ → ℕ → Value
 
 pub record Case : Type 0 where
   pub got : Value
@@ -57,6 +60,15 @@ unfoldable calls-for : List ℕ → Request → List Request → List (List ℕ)
 unfolding nodesOf dependencies totalizer
 calls-for s x ys cs = record { got = needed (dependencies (nodesOf s) x) (totalizer (nodesOf s) x); want = needed ys cs }
 
+unfoldable comes-upon : LeafLookup → Option ℕ → ℕ → Case
+unfolding nodeFound lookedAt
+comes-upon r n k = record { got = looked-up (nodeFound r) (lookedAt r); want = looked-up n k }
+
+-- among the leaves of a script
+unfoldable looks : List ℕ → ℕ → Option ℕ → ℕ → Case
+unfolding nodesOf lookupLeaf comes-upon
+looks s l n k = comes-upon (lookupLeaf (nodesOf s) l) n k
+
 -- two leaves and their join; with the request of value v in direction d
 unfoldable pair : ℕ → ℕ → List ℕ
 pair v d = 2 ∷ 1 ∷ 1 ∷ 0 ∷ 1 ∷ 2 ∷ 2 ∷ 0 ∷ 0 ∷ 0 ∷ 1 ∷ 0 ∷ 0 ∷ 3 ∷ 2 ∷ v ∷ d ∷ []
@@ -84,6 +96,21 @@ unfoldable window : List ℕ
 unfolding tree
 window = tree 1 ++ (3 ∷ 6 ∷ 1 ∷ 1 ∷ [])
 
+-- n pairs of leaves, each with its join: the leaves of pair i are the nodes 3i and 3i + 1, their literals 4i and 4i + 2
+unfoldable pairs : ℕ → ℕ → List ℕ
+pairs zero i = []
+pairs (suc n) i = 1 ∷ 4 * i ∷ 1 ∷ (4 * i + 2) ∷ 2 ∷ 3 * i ∷ 0 ∷ 0 ∷ (3 * i + 1) ∷ 0 ∷ 0 ∷ pairs n (suc i)
+
+-- 64 leaves with joins between them
+unfoldable sixty-four : List ℕ
+unfolding pairs
+sixty-four = 64 ∷ 1 ∷ pairs 32 0
+
+-- the nodes 0, 1, 3 and 6 are leaves
+unfoldable four-leaves : List LeafEntry
+four-leaves =
+    record { literal = 0; node = 0 } ∷ record { literal = 3; node = 1 } ∷ record { literal = 4; node = 3 } ∷ record { literal = 9; node = 6 } ∷ []
+
 -- 100,000,000, and one more
 unfoldable most : List ℕ
 most = 0x80 ∷ 0xc2 ∷ 0xd7 ∷ 0x2f ∷ []
@@ -92,7 +119,7 @@ unfoldable over : List ℕ
 over = 0x81 ∷ 0xc2 ∷ 0xd7 ∷ 0x2f ∷ []
 
 unfoldable pub cases : List Case
-unfolding most over plays reads steps-to defines calls-for pair limited-pair pair-log tree window
+unfolding most over plays reads steps-to defines calls-for comes-upon looks lookupIn pair limited-pair pair-log tree window sixty-four four-leaves
 cases =
     -- the whole case; with a log one byte too short; the sums it defines; what its request calls for
     plays (pair 1 1) 46 (answer 0 4 46 4 2 3 pair-log)
@@ -132,6 +159,19 @@ cases =
     ∷ plays (limited-pair 1 0) 46 (answer 0 4 46 4 2 3 pair-log)
     ∷ plays (limited-pair 1 1) 46 (answer 0 4 46 4 2 3 pair-log)
     ∷ plays (limited-pair 0 2) 46 (answer 10 3 0 0 0 2 (replicate 46 0))
+    -- document 02, §4: no leaf; one; the newest of 64, the third, the oldest; a negation, and an output
+    ∷ looks (1 ∷ 1 ∷ []) 0 none 0
+    ∷ looks (1 ∷ 1 ∷ 1 ∷ 0 ∷ []) 0 (some 0) 1
+    ∷ looks (1 ∷ 1 ∷ 1 ∷ 0 ∷ []) 1 none 1
+    ∷ looks sixty-four 126 (some 94) 1
+    ∷ looks sixty-four 4 (some 3) 62
+    ∷ looks sixty-four 0 (some 0) 64
+    ∷ looks sixty-four 1 none 64
+    ∷ looks sixty-four 128 none 64
+    ∷ plays (sixty-four ++ (1 ∷ 126 ∷ 1 ∷ 0 ∷ [])) 0 (answer 0 98 0 0 0 96 [])
+    ∷ plays (sixty-four ++ (1 ∷ 1 ∷ [])) 0 (answer 7 97 0 0 0 96 [])
+    ∷ comes-upon (lookupIn four-leaves 4) (some 3) 2
+    ∷ comes-upon (lookupIn four-leaves 8) none 4
     -- three outputs (literals 12 14 16), offset 1: if and only-if of 2, if and only-if of 3
     ∷ steps-to window 252 15 (some ((1 · 14 ∷ 1 · 17 ∷ []) ≥ 1))
     ∷ steps-to window 252 16 (some ((1 · 16 ∷ []) ≥ 0))
