@@ -81,8 +81,8 @@ module _ {bs : List ℕ} {capacity : ℕ} {h : Head} {cs : List Command} {s : St
 pub from-the-newest : FromTheNewest
 unfolding nodeFound lookedAt
 from-the-newest = record {
-  found = λ before after l none. (ap nodeFound (found-is before after l none), ap lookedAt (found-is before after l none));
-  missing = λ t l none. (ap nodeFound (missing-is t l none), ap lookedAt (missing-is t l none));
+  found = λ before after l none. (ap nodeFound (found-is before after l none), omega (arith, ap lookedAt (found-is before after l none)));
+  missing = λ t l none. (ap nodeFound (missing-is t l none), omega (arith, ap lookedAt (missing-is t l none)));
   once = λ bs capacity h cs s rest r. leaf-once r;
   in-any-order = λ bs capacity h cs s rest r before after l e.
       ap (λ (t : List Node). nodeFound (lookupLeaf t l)) e ∙ ap nodeFound (found-is before after l (none-after r before after l e));

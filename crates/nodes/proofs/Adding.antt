@@ -88,8 +88,8 @@ module _ {ns : List ℕ} {t : List Node} {n k l : ℕ} (j : Leafable ns t n k l)
     list = refl;
   }
 
-  pub table-leaf : rowAt (n + 1) ≤ length ns → Table (set (set (paste ns (rowAt n) (leafNumbers l) row) k l) (leafNodes + k) n) with-leaf
-  table-leaf room =
+  put-leaf : rowAt (n + 1) ≤ length ns → Table (set (set (paste ns (rowAt n) (leafNumbers l) row) k l) (leafNodes + k) n) with-leaf
+  put-leaf room =
       let next : length t ≡ n = j .next in
       let few : k < mostLeaves = j .few in
       let inside : rowAt n + row ≤ length ns = omega arith in
@@ -104,6 +104,11 @@ module _ {ns : List ℕ} {t : List Node} {n k l : ℕ} (j : Leafable ns t n k l)
       (leaves-more ms k l n few (omega arith) ∙ ap (λ (es : List LeafEntry). es ++ (record { literal = l; node = n } ∷ []))
       (leaves-agree ns ms k (λ i h. (put-before ns n (leafNumbers l) inside i (omega arith), put-before ns n (leafNumbers l) inside (leafNodes + i) (omega arith)))
       ∙ ap (λ (i : ℕ). map (readLeaf ns) (range 0 i)) (sym (j .leaves)) ∙ j .table .has .leaves)))
+
+  -- After the row, the literal x is written at p, and the number y at q.
+  pub table-leaf : rowAt (n + 1) ≤ length ns → (p x q y : ℕ) → p ≡ k → x ≡ l → q ≡ leafNodes + k → y ≡ n
+      → Table (set (set (paste ns (rowAt n) (leafNumbers l) row) p x) q y) with-leaf
+  table-leaf room p x q y e f g h = rw (e, f, g, h) (put-leaf room)
 
 -- ---- a join
 

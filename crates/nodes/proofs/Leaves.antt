@@ -93,17 +93,18 @@ module _ (ns : List ℕ) (count l : ℕ) where
     unfolding lookupLeaf
     whole = rw (sym (tb .has .leaves), counted)
 
-    pub found-is : (i : ℕ) → 0 < i → i ≤ count → NoneFrom i → getD ns (i - 1) 0 ≡ l
-        → lookupLeaf t l ≡ Found (getD ns (leafNodes + (i - 1)) 0) (count - (i - 1))
-    found-is i some within none is =
+    pub found-is : (i n k : ℕ) → 0 < i → i ≤ count → NoneFrom i → getD ns (i - 1) 0 ≡ l → n ≡ getD ns (leafNodes + (i - 1)) 0 → k ≡ count - (i - 1)
+        → Found n k ≡ lookupLeaf t l
+    found-is i n k some within none is number looked =
         let older : List LeafEntry = map (readLeaf ns) (range 0 (i - 1)) in
         let newer : List LeafEntry = map (readLeaf ns) (range (i - 1) (count - (i - 1))) in
         let e : count ≡ i - 1 + (count - (i - 1)) = omega arith in
         let f : 0 + (i - 1) ≡ i - 1 = omega arith in
-        whole
+        rw (number, looked)
+        (sym (whole
         ∙ ap (λ (es : List LeafEntry). lookupIn es l) (ap (λ (k : ℕ). map (readLeaf ns) (range 0 k)) e ∙ ap (map (readLeaf ns)) (rw f at (range-append 0 (i - 1) (count - (i - 1))))
         ∙ map-append (readLeaf ns) (range 0 (i - 1)) (range (i - 1) (count - (i - 1))))
-        ∙ found-stays older newer l (getD ns (leafNodes + (i - 1)) 0) (count - (i - 1)) (there i some within none is)
+        ∙ found-stays older newer l (getD ns (leafNodes + (i - 1)) 0) (count - (i - 1)) (there i some within none is)))
 
-    pub missing-is : NoneFrom 0 → lookupLeaf t l ≡ Missing count
-    missing-is none = let e : count - 0 ≡ count = omega arith in whole ∙ rw e at none
+    pub missing-is : (i k : ℕ) → NoneFrom i → i ≡ 0 → k ≡ count → Missing k ≡ lookupLeaf t l
+    missing-is i k none last all = let e : count - 0 ≡ count = omega arith in rw all (sym (whole ∙ rw (last, e) at none))

@@ -38,7 +38,7 @@ returns c =
     let put = c .before .before in
     let row = put .before .before .before in
     let start = row .before .before in
-    λ t j. rw (put .put-row .ensures, row .leaf-row .ensures) (table-leaf j (start .pre .0))
+    λ t j. rw (put .put-row .ensures, row .leaf-row .ensures) (table-leaf j (start .pre .0) _ _ _ _ (omega arith) (omega arith) (omega arith) (omega arith))
 
 pub add-leaf-spec : {M : Type 1} → statement M
 add-leaf-spec =

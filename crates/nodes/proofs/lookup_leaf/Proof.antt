@@ -48,7 +48,9 @@ returns : tie.Need-returns Inv-loop μ-loop
 returns c =
     let at = c .before .before .before .before in
     let a = at .before .before .args in
-    λ t tb e. ap (λ (n : ℕ). Found n (a .count - (at .loop .i - 1))) (c .number-at .ensures .0) ∙ sym (found-is (a .nodes .now) (a .count) (a .literal) t tb e (at .loop .i) (omega arith) (omega arith) (at .loop .inv .3) (omega arith))
+    λ t tb e.
+    found-is (a .nodes .now) (a .count) (a .literal) t tb e (at .loop .i) _ _ (omega arith) (omega arith) (at .loop .inv .3) (omega arith)
+    (omega (arith, c .number-at .ensures .0)) (omega arith)
 
 loop-less : tie.Need-loop-less Inv-loop μ-loop
 loop-less c = search needs
@@ -67,8 +69,7 @@ returns-2 : tie.Need-returns-2 Inv-loop μ-loop
 returns-2 c =
     let at = c .before in
     let a = at .before .before .args in
-    let none : at .loop .i ≡ 0 = omega arith in
-    λ t tb e. sym (missing-is (a .nodes .now) (a .count) (a .literal) t tb e (subst (NoneFrom (a .nodes .now) (a .count) (a .literal)) none (at .loop .inv .3)))
+    λ t tb e. missing-is (a .nodes .now) (a .count) (a .literal) t tb e (at .loop .i) _ (at .loop .inv .3) (omega arith) (omega arith)
 
 pub lookup-leaf-spec : {M : Type 1} → statement M
 lookup-leaf-spec =
