@@ -1,5 +1,6 @@
-//! Random scripts of every shape: chains, balanced and random trees, windows of every kind, negated leaves,
-//! all directions, repeats, requests between joins, with and without a close; and damaged copies.
+//! Random scripts of every shape: chains, balanced and random trees, windows of every kind, negated leaves, leaves in runs
+//! between the joins, old ones again, all directions, repeats, requests between joins, with and without a close; and
+//! damaged copies.
 
 use crate::{
     desk::{play, MOST_HEAD},
@@ -9,16 +10,39 @@ use crate::{
 
 pub const WHOLE_LOG: u32 = 65_536;
 
-/// A script being written, with the lengths of its nodes and those that no join has taken.
+/// A script being written, with the literals of its leaves, the lengths of its nodes and those that no join has taken.
 struct Draft {
     script: Vec<u8>,
+    leaves: Vec<u32>,
     lengths: Vec<u32>,
     free: Vec<u32>,
 }
 
 impl Draft {
+    fn with_head(variable: u32, step: u32) -> Draft {
+        let mut script = vec![];
+        put(&mut script, variable);
+        put(&mut script, step);
+        Draft { script, leaves: vec![], lengths: vec![], free: vec![] }
+    }
+
     fn command(&mut self, command: Command) {
         command.put(&mut self.script);
+    }
+
+    fn leaf(&mut self, literal: u32) {
+        self.command(Command::Leaf(literal));
+        self.leaves.push(literal);
+        self.free.push(self.lengths.len() as u32);
+        self.lengths.push(1);
+    }
+
+    /// A leaf that is there already, half of the time the newest; now and then the negation of one, which question 7 refuses.
+    fn leaf_again(&mut self, random: &mut Random) {
+        let last = self.leaves.len() as u32 - 1;
+        let place = if random.chance(50) { last } else { random.from(0, last) };
+        let negation = u32::from(random.chance(2));
+        self.command(Command::Leaf(self.leaves[place as usize] ^ negation));
     }
 
     /// A free node, which is free no longer.
@@ -88,27 +112,23 @@ fn head_number(random: &mut Random, least: u32) -> u32 {
     }
 }
 
-/// Leaves on different variables below the first output variable, some of them repeated.
-fn leaves(random: &mut Random, draft: &mut Draft, count: u32, first_variable: u32) {
+/// Leaves on different variables below the first output variable, up to `number` of the script's `count`, some of them
+/// repeated.
+fn leaves(random: &mut Random, draft: &mut Draft, number: usize, count: u32, first_variable: u32) {
     let negated = random.pick(&[0, 30, 50, 100]);
-    let mut used = vec![];
-    while draft.lengths.len() < count as usize {
+    while draft.leaves.len() < number {
         let variable = if first_variable < 2 * count {
             random.from(0, first_variable - 1)
         } else {
             random.from(0, 2 * count - 1) + random.pick(&[0, 0, first_variable - 2 * count])
         };
-        if used.contains(&variable) {
+        if draft.leaves.iter().any(|literal| literal / 2 == variable) {
             continue;
         }
-        used.push(variable);
-        let literal = 2 * variable + u32::from(random.chance(negated));
-        draft.command(Command::Leaf(literal));
+        draft.leaf(2 * variable + u32::from(random.chance(negated)));
         if random.chance(5) {
-            draft.command(Command::Leaf(literal));
+            draft.leaf_again(random);
         }
-        draft.free.push(draft.lengths.len() as u32);
-        draft.lengths.push(1);
     }
 }
 
@@ -117,17 +137,25 @@ pub fn script(random: &mut Random, most_leaves: u32) -> Vec<u8> {
     let small = most_leaves.min(8);
     let count = if random.chance(70) { random.from(1, small) } else { random.from(1, most_leaves) };
     let first_variable = head_number(random, count);
-    let mut draft = Draft { script: vec![], lengths: vec![], free: vec![] };
-    put(&mut draft.script, first_variable);
-    let first_step = head_number(random, 1);
-    put(&mut draft.script, first_step);
+    let mut draft = Draft::with_head(first_variable, head_number(random, 1));
 
-    leaves(random, &mut draft, count, first_variable);
+    let first_run = if random.chance(60) { count } else { random.from(1, count) };
+    leaves(random, &mut draft, first_run as usize, count, first_variable);
     let windows = random.pick(&[0, 0, 20, 50, 90]);
     let full = random.pick(&[0, 0, 20, 60]);
     let between = random.pick(&[0, 0, 10, 40]);
+    let again = random.pick(&[0, 0, 20]);
     let shape = random.from(0, 2);
-    while draft.free.len() > 1 && !random.chance(2) {
+    loop {
+        let left = count - draft.leaves.len() as u32;
+        if random.chance(2) || (left == 0 && draft.free.len() < 2) {
+            break;
+        }
+        if left > 0 && (draft.free.len() < 2 || random.chance(30)) {
+            let run = draft.leaves.len() + random.from(1, left) as usize;
+            leaves(random, &mut draft, run, count, first_variable);
+            continue;
+        }
         let last = draft.free.len() - 1;
         let (first, second) = match shape {
             0 if random.chance(50) => (last, 0),
@@ -141,6 +169,9 @@ pub fn script(random: &mut Random, most_leaves: u32) -> Vec<u8> {
         if random.chance(between) {
             let node = random.from(0, draft.lengths.len() as u32 - 1);
             draft.request(random, node);
+        }
+        if random.chance(again) {
+            draft.leaf_again(random);
         }
     }
 
@@ -165,10 +196,8 @@ pub fn script(random: &mut Random, most_leaves: u32) -> Vec<u8> {
 
 /// A script of 64 leaves with the head's numbers as large as they may be.
 pub fn large_script(random: &mut Random) -> Vec<u8> {
-    let mut draft = Draft { script: vec![], lengths: vec![], free: vec![] };
-    put(&mut draft.script, MOST_HEAD);
-    put(&mut draft.script, MOST_HEAD);
-    leaves(random, &mut draft, 64, MOST_HEAD);
+    let mut draft = Draft::with_head(MOST_HEAD, MOST_HEAD);
+    leaves(random, &mut draft, 64, 64, MOST_HEAD);
     let chain = random.chance(50);
     while draft.free.len() > 1 {
         let left = draft.take(if chain { draft.free.len() - 1 } else { 0 });

@@ -74,6 +74,26 @@ fn full_limits() -> Vec<Vec<u8>> {
     on_both.chain(on_one).chain(past).collect()
 }
 
+/// 64 leaves in pairs, each pair joined before the next. Then the newest leaf, the oldest and one between them again, an
+/// output of the first join and of the last both ways, and such leaves as are given.
+fn runs(more: &[u32]) -> Vec<u8> {
+    let plain = |node| Side { node, offset: 0, limit: 0 };
+    let mut script = vec![65, 1];
+    for pair in 0..32 {
+        [4 * pair, 4 * pair + 2].iter().for_each(|literal| Command::Leaf(*literal).put(&mut script));
+        Command::Join(plain(3 * pair), plain(3 * pair + 1)).put(&mut script);
+    }
+    [126, 0, 62].iter().for_each(|literal| Command::Leaf(*literal).put(&mut script));
+    [2, 95].iter().for_each(|node| Command::Request { node: *node, value: 1, direction: 3 }.put(&mut script));
+    more.iter().for_each(|literal| Command::Leaf(*literal).put(&mut script));
+    script
+}
+
+/// The negations of the newest leaf and of the oldest, and a leaf too many, are refused.
+fn leaf_runs() -> Vec<Vec<u8>> {
+    [&[][..], &[126, 0], &[127], &[1], &[126, 1], &[128]].map(runs).to_vec()
+}
+
 pub fn list() -> Vec<(Case, Answer)> {
     let mut list = vec![];
     for expected in refusals::list() {
@@ -93,7 +113,7 @@ pub fn list() -> Vec<(Case, Answer)> {
         }
         kept
     };
-    for script in at_limits().into_iter().chain(full_limits()) {
+    for script in at_limits().into_iter().chain(full_limits()).chain(leaf_runs()) {
         add(Case { script, capacity: WHOLE_LOG }, MOST_LOG);
     }
     let mut left = 1_300;

@@ -1,8 +1,8 @@
 -- Scripts that meet the hypotheses of the demands: one tree, its requests in two orders and places, one repeated and closed, each with its own log.
 use mathlib.Core.Path.{_≡_, refl, sym, subst}
 use mathlib.Core.Logic.{inl, inr, ⊎-elim}
-use mathlib.Core.List.{List, [], _∷_, flatMap, List·Memᴰ, List·Memᴰ·head, List·Memᴰ·tail, List·Memᴰ·cases-cons, List·Memᴰ·not-nil}
-use mathlib.Core.Option.{some}
+use mathlib.Core.List.{List, [], _∷_, flatMap, List·Memᴰ, List·Memᴰ·head, List·Memᴰ·tail, List·Memᴰ·cases-cons, List·Memᴰ·not-nil, List·Memᴰ·eq-of-singleton}
+use mathlib.Core.Option.{none, some}
 use Prim.Native.Nat.{ℕ, zero, suc, _≤_}
 use native.Mathlib.Omega.{arith}
 use Rattle.number.specs.Number.{Bytes, readIn, above}
@@ -10,8 +10,8 @@ use lib.ListN.{length, drop}
 use Rattle.memo.specs.Closure.{SameMembers}
 use Rattle.memo.proofs.Lists.{of-three}
 use Rattle.record.specs.Record.{numbers}
-use Rattle.totdb.specs.Nodes.{leaf}
-use Rattle.totdb.specs.Leaves.{nodeFound, lookupLeaf}
+use Rattle.totdb.specs.Nodes.{leaf, nodeAt}
+use Rattle.totdb.specs.Leaves.{nodeFound, lookedAt, lookupLeaf}
 use Rattle.totdb.specs.declared.Side.{Side}
 use Rattle.cert.specs.Definitions.{if, only-if}
 use Rattle.cert.specs.Requests.{Request, request}
@@ -20,7 +20,7 @@ use Rattle.player.specs.Accepted.{pointwise-nil, pointwise-cons}
 use Rattle.player.specs.Called.{makes, table}
 use Rattle.player.specs.Player.{act, played}
 use Rattle.player.specs.Script.{commandNumbers, scriptBytes}
-use Rattle.player.specs.Verdict.{Reached, at-head}
+use Rattle.player.specs.Verdict.{ownLiteral, leafLiterals, Reached, at-head}
 use Rattle.player.specs.declared.Command.{Command}
 use Rattle.player.proofs.Runs.{asked, asked-from, asked-has}
 use Rattle.player.proofs.Accepted.{areShort, script-tested, accepted-reached}
@@ -270,11 +270,24 @@ same-refusal =
           }) (λ _. omega arith),
     )
 
--- Document 02, §4, of the first's second leaf.
-pub second-leaf : (reached .0 .nodes ≡ leaf 0 ∷ leaf 2 ∷ drop 2 (table head first-commands)) × (nodeFound (lookupLeaf (reached .0 .nodes) 2) ≡ some 1)
-unfolding head first-commands table
+-- Document 02, §4, of the second leaf of the script `first`. Of two leaves of one literal, as no script has them, the newest is found; and none among those
+-- made after it.
+pub second-leaf : (nodeFound (lookupLeaf (reached .0 .nodes) 2) ≡ some 1) × (lookedAt (lookupLeaf (reached .0 .nodes) 2) ≡ 3)
+unfolding head first-commands table nodeAt leafLiterals ownLiteral flatMap
 second-leaf =
-    let nodes = nodes-table head 600 first-commands (reached .0) (reached-all (reached .1) .3) in (
-      nodes,
-      from-the-newest .in-any-order first 600 head first-commands (reached .0) [] (reached .1) (leaf 0 ∷ []) (drop 2 (table head first-commands)) 2 nodes,
-    )
+    let nodes = nodes-table head 600 first-commands (reached .0) (reached-all (reached .1) .3) in
+    let later : length (leafLiterals (drop 2 (reached .0 .nodes))) ≡ 2 = rw nodes refl in
+    let r = from-the-newest .any-leaf first 600 head first-commands (reached .0) [] (reached .1) 2 1 (rw nodes (omega arith)) (rw nodes refl) in
+    (r .0, omega (arith, r .1, later))
+
+four-absent : List·Memᴰ 4 (leafLiterals (leaf 9 ∷ [])) → ⊥
+unfolding leafLiterals ownLiteral flatMap
+four-absent m = omega (arith, List·Memᴰ·eq-of-singleton m)
+
+pub newest-of-two : (nodeFound (lookupLeaf (leaf 4 ∷ leaf 4 ∷ leaf 9 ∷ []) 4) ≡ some 1) × (lookedAt (lookupLeaf (leaf 4 ∷ leaf 4 ∷ leaf 9 ∷ []) 4) ≡ 2)
+unfolding leafLiterals ownLiteral flatMap
+newest-of-two = from-the-newest .found (leaf 4 ∷ []) (leaf 9 ∷ []) 4 four-absent
+
+pub none-of-one : (nodeFound (lookupLeaf (leaf 9 ∷ []) 4) ≡ none) × (lookedAt (lookupLeaf (leaf 9 ∷ []) 4) ≡ 1)
+unfolding leafLiterals ownLiteral flatMap
+none-of-one = from-the-newest .missing (leaf 9 ∷ []) 4 four-absent

@@ -96,7 +96,7 @@ unfoldable window : List ℕ
 unfolding tree
 window = tree 1 ++ (3 ∷ 6 ∷ 1 ∷ 1 ∷ [])
 
--- n pairs of leaves, each with its join: the leaves of pair i are the nodes 3i and 3i + 1, their literals 4i and 4i + 2
+-- n pairs of leaves, each with its join, from pair i on: the leaves of pair i are the nodes 3i and 3i + 1, their literals 4i and 4i + 2
 unfoldable pairs : ℕ → ℕ → List ℕ
 pairs zero i = []
 pairs (suc n) i = 1 ∷ 4 * i ∷ 1 ∷ (4 * i + 2) ∷ 2 ∷ 3 * i ∷ 0 ∷ 0 ∷ (3 * i + 1) ∷ 0 ∷ 0 ∷ pairs n (suc i)
@@ -106,10 +106,10 @@ unfoldable sixty-four : List ℕ
 unfolding pairs
 sixty-four = 64 ∷ 1 ∷ pairs 32 0
 
--- the nodes 0, 1, 3 and 6 are leaves
+-- the nodes 0, 1, 3 and 6 are leaves; two have one literal, as in no script
 unfoldable four-leaves : List LeafEntry
 four-leaves =
-    record { literal = 0; node = 0 } ∷ record { literal = 3; node = 1 } ∷ record { literal = 4; node = 3 } ∷ record { literal = 9; node = 6 } ∷ []
+    record { literal = 4; node = 0 } ∷ record { literal = 3; node = 1 } ∷ record { literal = 4; node = 3 } ∷ record { literal = 9; node = 6 } ∷ []
 
 -- 100,000,000, and one more
 unfoldable most : List ℕ
@@ -159,7 +159,7 @@ cases =
     ∷ plays (limited-pair 1 0) 46 (answer 0 4 46 4 2 3 pair-log)
     ∷ plays (limited-pair 1 1) 46 (answer 0 4 46 4 2 3 pair-log)
     ∷ plays (limited-pair 0 2) 46 (answer 10 3 0 0 0 2 (replicate 46 0))
-    -- document 02, §4: no leaf; one; the newest of 64, the third, the oldest; a negation, and an output
+    -- document 02, §4: no leaf; one; of 64 leaves the newest, the third and the oldest, a negation and an output; old ones again, and the negation
     ∷ looks (1 ∷ 1 ∷ []) 0 none 0
     ∷ looks (1 ∷ 1 ∷ 1 ∷ 0 ∷ []) 0 (some 0) 1
     ∷ looks (1 ∷ 1 ∷ 1 ∷ 0 ∷ []) 1 none 1
@@ -170,6 +170,8 @@ cases =
     ∷ looks sixty-four 128 none 64
     ∷ plays (sixty-four ++ (1 ∷ 126 ∷ 1 ∷ 0 ∷ [])) 0 (answer 0 98 0 0 0 96 [])
     ∷ plays (sixty-four ++ (1 ∷ 1 ∷ [])) 0 (answer 7 97 0 0 0 96 [])
+    -- of two leaves the newest
+    ∷ comes-upon (lookupIn four-leaves 1) none 4
     ∷ comes-upon (lookupIn four-leaves 4) (some 3) 2
     ∷ comes-upon (lookupIn four-leaves 8) none 4
     -- three outputs (literals 12 14 16), offset 1: if and only-if of 2, if and only-if of 3

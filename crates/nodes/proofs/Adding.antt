@@ -11,7 +11,7 @@ use Rattle.sizes.specs.Sizes.{mostLeaves, width, leafNodes, nodesStart, row, ro
 use Rattle.totdb.specs.Nodes.{Node, leaf, join, nodeAt, len, leaves, output, range, sideLen, sideLeaves, joinOf, plainForm, leafCount, isOver, taken}
 use Rattle.totdb.specs.Leaves.{LeafEntry}
 use Rattle.totdb.specs.declared.Side.{Side}
-use Rattle.totdb.proofs.Leaves.{leafCount-leaf, leafCount-join, leafTable-leaf, leafTable-join}
+use Rattle.totdb.proofs.Leaves.{leafCount-leaf, leafCount-join, entry, leafTable-leaf, leafTable-join}
 use Rattle.totdb.proofs.Sides.{plain-length}
 use Rattle.cert.specs.Sized.{Fit}
 use Rattle.cert.proofs.Rules.{sideLen-more}
@@ -101,7 +101,7 @@ module _ {ns : List ℕ} {t : List Node} {n k l : ℕ} (j : Leafable ns t n k l)
       (λ i h. kept i ∙ put-below ns n (leafNumbers l) inside i (omega arith) ∙ same-leaf (j .table) i h l)
       (rw (kept (length t), next, put-here ns n (leafNumbers l) inside refl) (rw next at row-leaf))
       (rw (leafCount-leaf t l, leafTable-leaf t l, j .leaves, next)
-      (leaves-more ms k l n few (omega arith) ∙ ap (λ (es : List LeafEntry). es ++ (record { literal = l; node = n } ∷ []))
+      (leaves-more ms k l n few (omega arith) ∙ ap (λ (es : List LeafEntry). es ++ (entry l n ∷ []))
       (leaves-agree ns ms k (λ i h. (put-before ns n (leafNumbers l) inside i (omega arith), put-before ns n (leafNumbers l) inside (leafNodes + i) (omega arith)))
       ∙ ap (λ (i : ℕ). map (readLeaf ns) (range 0 i)) (sym (j .leaves)) ∙ j .table .has .leaves)))
 

@@ -1,20 +1,18 @@
 -- The table of the leaves: written, and looked up.
-use mathlib.Core.Path.{_≡_, refl, sym, ap, _∙_}
-use mathlib.Core.Bool.{true, false}
+use mathlib.Core.Path.{_≡_, sym, ap, _∙_}
 use mathlib.Core.List.{List, [], _∷_, _++_, map, map-append}
-use Prim.Native.Nat.{ℕ, zero, suc, _+_, _-_, _≤_, _<_}
+use Prim.Native.Nat.{ℕ, suc, _+_, _-_, _≤_, _<_}
 use native.Mathlib.Omega.{arith}
 use borrow.Author.Tests.{eq-eqb, ne-eqb}
-use lib.Dec.{eqb}
 use lib.ListN.{length, getD, set, length-set}
 use lib.Seq.{getD-set-same, getD-set-other}
 use Rattle.sizes.specs.Sizes.{mostLeaves, leafNodes, nodesStart}
 use Rattle.memo.proofs.Lists.{map-agree}
 use Rattle.totdb.specs.Nodes.{Node, range, leafCount}
-use Rattle.totdb.specs.Leaves.{LeafEntry, leafTable, lookAt, lookupIn, lookupLeaf}
+use Rattle.totdb.specs.Leaves.{LeafEntry, lookFurther, lookupIn, lookupLeaf}
 use Rattle.totdb.specs.declared.LeafLookup.{LeafLookup}
 use Rattle.totdb.specs.declared.LeafLookup.the-variants.{Found, Missing}
-use Rattle.totdb.proofs.Leaves.{found-stays}
+use Rattle.totdb.proofs.Leaves.{entry, found-stays}
 use Rattle.totdb.proofs.Listed.{range-snoc}
 use Rattle.cert.proofs.Apart.{range-mem}
 use Rattle.cert.proofs.WindowDerivations.{range-append}
@@ -32,20 +30,20 @@ leaves-agree ns ms k same =
 
 -- The numbers of one leaf more.
 pub leaves-more : (ns : List ℕ) (k l n : ℕ) → k < mostLeaves → nodesStart ≤ length ns
-    → map (readLeaf (set (set ns k l) (leafNodes + k) n)) (range 0 (k + 1)) ≡ map (readLeaf ns) (range 0 k) ++ (record { literal = l; node = n } ∷ [])
+    → map (readLeaf (set (set ns k l) (leafNodes + k) n)) (range 0 (k + 1)) ≡ map (readLeaf ns) (range 0 k) ++ (entry l n ∷ [])
 leaves-more ns k l n few long =
     let one : List ℕ = set ns k l in
     let both : List ℕ = set one (leafNodes + k) n in
     let e : k + 1 ≡ suc k = omega arith in
     let f : 0 + k ≡ k = omega arith in
-    let last : readLeaf both k ≡ record { literal = l; node = n } =
+    let last : readLeaf both k ≡ entry l n =
     rw (
       getD-set-other one (leafNodes + k) k n 0 (λ z. omega arith),
       getD-set-same ns k l 0 (omega arith),
       getD-set-same one (leafNodes + k) n 0 (omega (arith, length-set ns k l)),
     ) in
     rw (e, range-snoc 0 k, f, map-append (readLeaf both) (range 0 k) (k ∷ []), last)
-    (ap (λ (es : List LeafEntry). es ++ (record { literal = l; node = n } ∷ []))
+    (ap (λ (es : List LeafEntry). es ++ (entry l n ∷ []))
     (leaves-agree ns both k (λ i h. (
       getD-set-other one (leafNodes + k) i n 0 (λ z. omega arith) ∙ getD-set-other ns k i l 0 (λ z. omega arith),
       getD-set-other one (leafNodes + k) (leafNodes + i) n 0 (λ z. omega arith) ∙ getD-set-other ns k (leafNodes + i) l 0 (λ z. omega arith),
@@ -68,24 +66,24 @@ module _ (ns : List ℕ) (count l : ℕ) where
 
   -- The next one is looked at.
   module _ (i : ℕ) (some : 0 < i) (within : i ≤ count) (none : NoneFrom i) where
-    next : lookupFrom (i - 1) ≡ lookAt l (readLeaf ns (i - 1)) (Missing (count - i))
+    next : lookupFrom (i - 1) ≡ lookFurther l (readLeaf ns (i - 1)) (Missing (count - i))
     unfolding range lookupIn
     next =
         let e : count - (i - 1) ≡ suc (count - i) = omega arith in
         let f : suc (i - 1) ≡ i = omega arith in
-        rw (e, f) (ap (lookAt l (readLeaf ns (i - 1))) none)
+        rw (e, f) (ap (lookFurther l (readLeaf ns (i - 1))) none)
 
     pub not-there : (getD ns (i - 1) 0 ≡ l → ⊥) → NoneFrom (i - 1)
-    unfolding lookAt
+    unfolding lookFurther
     not-there ne =
         let e : count - (i - 1) ≡ suc (count - i) = omega arith in
-        next ∙ rw (e, ne-eqb l (getD ns (i - 1) 0) (λ z. ne (sym z)), lookAt)
+        next ∙ rw (e, ne-eqb l (getD ns (i - 1) 0) (λ z. ne (sym z)), lookFurther)
 
     there : getD ns (i - 1) 0 ≡ l → lookupFrom (i - 1) ≡ Found (getD ns (leafNodes + (i - 1)) 0) (count - (i - 1))
-    unfolding lookAt
+    unfolding lookFurther
     there is =
         let e : count - (i - 1) ≡ suc (count - i) = omega arith in
-        next ∙ rw (e, eq-eqb l (getD ns (i - 1) 0) (sym is), lookAt)
+        next ∙ rw (e, eq-eqb l (getD ns (i - 1) 0) (sym is), lookFurther)
 
   -- All of them are the leaves of the table.
   module _ (t : List Node) (tb : Table ns t) (counted : leafCount t ≡ count) where

@@ -12,7 +12,8 @@ ghost use Rattle.totdb.specs.Leaves.{lookupLeaf};
 ghost use Rattle.rows.specs.Rows.{Table};
 ghost use Rattle.nodes.specs.Added.{Leafable, Joinable, Sided, Small, leafNumbers, sideNumbers, joinNumbers};
 
-// The lookup of a leaf by its literal, from the last made to the first. `count` is the number of leaves.
+// The lookup of a leaf by its literal (rustsat's map `lookup_leaf`), from the last made to the first. `count` is the number of
+// leaves.
 pub fn lookup_leaf(nodes: &[u32], count: usize, literal: u32) -> LeafLookup
     requires { ⌜ ((t : List Node) × Table (now nodes) t × (leafCount t ≡ count)) ⌝ }
     ensures { λ r. ⌜ ((t : List Node) → Table (now (nodes .entry)) t → leafCount t ≡ count → r ≡ lookupLeaf t literal) ⌝ }

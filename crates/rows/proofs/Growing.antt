@@ -24,7 +24,7 @@ use Rattle.rows.proofs.Sides.{side-inside, window-own}
 -- ---- any element of a list
 
 module _ {A : Type 0} (f : A → Bool) (d : A) where
-  pub one-of : (l : List A) (n : ℕ) → f (getD l n d) ≡ true → n < length l → any f l ≡ true
+  one-of : (l : List A) (n : ℕ) → f (getD l n d) ≡ true → n < length l → any f l ≡ true
   unfolding any
   one-of [] n p h = absurd (omega arith)
   one-of (a ∷ l) zero p h = rw p

@@ -46,7 +46,7 @@ pub record Row (r : List ℕ) (t : List Node) (n : ℕ) (x : Node) : Type 0 wher
 abbrev pub readLeaf : List ℕ → ℕ → LeafEntry
 readLeaf ns k = record { literal = getD ns k 0; node = getD ns (leafNodes + k) 0 }
 
--- The table has the nodes t. Other numbers are left open: the sides of a leaf, what stands after a list, rows after those of t.
+-- The table has the nodes t. Other numbers are left open: the sides of a leaf, what stands after a list, the places of leaves and rows to come.
 pub record NodesIn (ns : List ℕ) (t : List Node) : Type 0 where
   pub room : rowAt (length t) ≤ length ns
   pub row : (n : ℕ) → n < length t → Row (rowOf ns n) t n (nodeAt t n)

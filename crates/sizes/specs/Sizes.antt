@@ -55,6 +55,7 @@ mostVariable = mostHead + mostJoins * width
 
 -- ---- the table of the nodes: of the leaves in the order of their making the literals, then the node numbers; then a row for each node
 
+-- The place of the first leaf's node number.
 abbrev pub leafNodes : ℕ
 leafNodes = mostLeaves
 

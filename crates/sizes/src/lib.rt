@@ -38,6 +38,7 @@ pub const STEP_STOP: u32 = MOST_HEAD + MOST_BYTES as u32;
 // ---- the table of the nodes: of the leaves in the order of their making the literals, then the node numbers; then a row for each
 // node
 
+// The place of the first leaf's node number.
 pub const LEAF_NODES: usize = MOST_LEAVES;
 
 // The place of the first row.

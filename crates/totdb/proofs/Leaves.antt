@@ -7,7 +7,7 @@ use native.Mathlib.Omega.{arith}
 use lib.Dec.{eqb}
 use lib.ListN.{length}
 use Rattle.totdb.specs.Nodes.{Node, leaf, join, any, leafOf, known, leafCount}
-use Rattle.totdb.specs.Leaves.{LeafEntry, leavesFrom, leafTable, isFound, lookAt, lookupIn, lookupLeaf}
+use Rattle.totdb.specs.Leaves.{LeafEntry, leavesFrom, leafTable, isFound, lookFurther, lookupIn, lookupLeaf}
 use Rattle.totdb.specs.declared.LeafLookup.{LeafLookup}
 use Rattle.totdb.specs.declared.LeafLookup.the-variants.{Found, Missing}
 use Rattle.totdb.specs.declared.Side.{Side}
@@ -26,7 +26,7 @@ leafCount-join [] ls o l r = refl
 leafCount-join (leaf m ∷ t) ls o l r = ap suc (leafCount-join t ls o l r)
 leafCount-join (join ms p a b ∷ t) ls o l r = leafCount-join t ls o l r
 
-abbrev entry : ℕ → ℕ → LeafEntry
+abbrev pub entry : ℕ → ℕ → LeafEntry
 entry l n = record { literal = l; node = n }
 
 cons-same : (e : LeafEntry) {es fs : List LeafEntry} → es ≡ fs → e ∷ es ≡ e ∷ fs
@@ -38,7 +38,7 @@ leaves-leaf n [] l = let e : n + 0 ≡ n = omega arith in rw e
 leaves-leaf n (leaf m ∷ t) l = let e : n + suc (length t) ≡ suc n + length t = omega arith in rw e (cons-same (entry m n) (leaves-leaf (suc n) t l))
 leaves-leaf n (join ls o a b ∷ t) l = let e : n + suc (length t) ≡ suc n + length t = omega arith in rw e (leaves-leaf (suc n) t l)
 
-pub leafTable-leaf : (t : List Node) (l : ℕ) → leafTable (t ++ (leaf l ∷ [])) ≡ leafTable t ++ (record { literal = l; node = length t } ∷ [])
+pub leafTable-leaf : (t : List Node) (l : ℕ) → leafTable (t ++ (leaf l ∷ [])) ≡ leafTable t ++ (entry l (length t) ∷ [])
 unfolding leafTable
 leafTable-leaf t l = let e : 0 + length t ≡ length t = omega arith in rw e at (leaves-leaf 0 t l)
 
@@ -56,12 +56,12 @@ leafTable-join t ls o l r = leaves-join 0 t ls o l r
 
 -- Older leaves are not looked at once the literal is found.
 pub found-stays : (es fs : List LeafEntry) (l n k : ℕ) → lookupIn fs l ≡ Found n k → lookupIn (es ++ fs) l ≡ Found n k
-unfolding lookupIn lookAt
+unfolding lookupIn lookFurther
 found-stays [] fs l n k h = h
 found-stays (e ∷ es) fs l n k h = rw (found-stays es fs l n k h)
 
-found-one-more : (l : ℕ) (e : LeafEntry) (r : LeafLookup) → isFound (lookAt l e r) ≡ (eqb l (e .literal) || isFound r)
-unfolding lookAt isFound
+found-one-more : (l : ℕ) (e : LeafEntry) (r : LeafLookup) → isFound (lookFurther l e r) ≡ (eqb l (e .literal) || isFound r)
+unfolding lookFurther isFound
 found-one-more l e (Found n k) = by (eqb l (e .literal))
   where
     by : (b : Bool) → true ≡ (b || true)

@@ -25,7 +25,7 @@ leafTable t = leavesFrom 0 t
 
 -- ---- the lookup
 
--- What a lookup found, and how many leaves it looked at.
+-- The node that a lookup found, and how many leaves it looked at.
 unfoldable pub nodeFound : LeafLookup → Option ℕ
 nodeFound (Found n k) = some n
 nodeFound (Missing k) = none
@@ -39,15 +39,15 @@ isFound (Found n k) = true
 isFound (Missing k) = false
 
 -- One more leaf is looked at, unless the literal was found among those made after it.
-unfoldable pub lookAt : ℕ → LeafEntry → LeafLookup → LeafLookup
-lookAt l a (Found n k) = Found n k
-lookAt l a (Missing k) = elim (eqb l (a .literal)) [ true ↦ Found (a .node) (suc k) | false ↦ Missing (suc k) ]
+unfoldable pub lookFurther : ℕ → LeafEntry → LeafLookup → LeafLookup
+lookFurther l e (Found n k) = Found n k
+lookFurther l e (Missing k) = elim (eqb l (e .literal)) [ true ↦ Found (e .node) (suc k) | false ↦ Missing (suc k) ]
 
 -- From the last of the leaves to the first.
 unfoldable pub lookupIn : List LeafEntry → ℕ → LeafLookup
-unfolding lookAt
+unfolding lookFurther
 lookupIn [] l = Missing 0
-lookupIn (a ∷ es) l = lookAt l a (lookupIn es l)
+lookupIn (e ∷ es) l = lookFurther l e (lookupIn es l)
 
 unfoldable pub lookupLeaf : List Node → ℕ → LeafLookup
 unfolding leafTable lookupIn

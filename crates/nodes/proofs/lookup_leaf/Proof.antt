@@ -1,11 +1,9 @@
 -- `nodes::lookup_leaf` meets its contract: no leaf from number i on has the literal.
-use mathlib.Core.Path.{_≡_, sym, ap, subst, _∙_}
-use Prim.Native.Nat.{ℕ, _-_, _≤_}
+use Prim.Native.Nat.{_≤_}
 use native.Mathlib.Omega.{arith}
 use borrow.Author.Needs.{needs}
 use lib.ListN.{length}
 use Rattle.sizes.specs.Sizes.{mostLeaves, nodesStart}
-use Rattle.totdb.specs.declared.LeafLookup.the-variants.{Found}
 use Rattle.nodes.proofs.Leaves.{NoneFrom, none-newer, not-there, found-is, missing-is}
 use Rattle.nodes.proofs.lookup_leaf.Statement.{statement}
 use Rattle.nodes.proofs.lookup_leaf.Tie as tie
