@@ -147,13 +147,13 @@ pub fn script(random: &mut Random, most_leaves: u32) -> Vec<u8> {
     let again = random.pick(&[0, 0, 20]);
     let shape = random.from(0, 2);
     loop {
-        let left = count - draft.leaves.len() as u32;
-        if random.chance(2) || (left == 0 && draft.free.len() < 2) {
+        let to_make = count - draft.leaves.len() as u32;
+        if random.chance(2) || (to_make == 0 && draft.free.len() < 2) {
             break;
         }
-        if left > 0 && (draft.free.len() < 2 || random.chance(30)) {
-            let run = draft.leaves.len() + random.from(1, left) as usize;
-            leaves(random, &mut draft, run, count, first_variable);
+        if to_make > 0 && (draft.free.len() < 2 || random.chance(30)) {
+            let number = draft.leaves.len() + random.from(1, to_make) as usize;
+            leaves(random, &mut draft, number, count, first_variable);
             continue;
         }
         let last = draft.free.len() - 1;

@@ -4,11 +4,11 @@ use mathlib.Core.Bool.{true, false}
 use mathlib.Core.Logic.{⊎-elim}
 use mathlib.Core.List.{List, [], _∷_, _++_, flatMap, List·Memᴰ, List·Memᴰ·head, List·Memᴰ·tail, List·Memᴰ·cases-cons, List·Memᴰ·not-nil}
 use mathlib.Core.Option.{none, some}
-use Prim.Native.Nat.{ℕ, zero, suc, _+_, _<_}
+use Prim.Native.Nat.{ℕ, suc, _+_, _<_}
 use native.Mathlib.Omega.{arith}
 use borrow.Author.Tests.{eq-eqb, ne-eqb}
 use lib.ListN.{length, take, drop, length-drop}
-use lib.Seq.{getD-drop, length-take-le}
+use lib.Seq.{getD-drop, split-at, length-take-le}
 use Rattle.totdb.specs.Nodes.{Node, leaf, join, nodeAt}
 use Rattle.totdb.specs.Leaves.{leavesFrom, leafTable, nodeFound, lookedAt, isFound, lookFurther, lookupIn, lookupLeaf}
 use Rattle.totdb.specs.declared.LeafLookup.{LeafLookup}
@@ -64,13 +64,6 @@ leaf-node (leaf k ∷ t) l m =
     ⊎-elim (λ e. (0, omega arith, ap leaf (sym e))) (λ h. let r = leaf-node t l h in (suc (r .0), omega (arith, r .1), r .2)) (List·Memᴰ·cases-cons m)
 leaf-node (join ls o a b ∷ t) l m = let r = leaf-node t l m in (suc (r .0), omega (arith, r .1), r .2)
 
--- The node of a number, between those before it and those after it.
-node-split : (t : List Node) (n l : ℕ) → n < length t → nodeAt t n ≡ leaf l → t ≡ take n t ++ (leaf l ∷ drop (suc n) t)
-unfolding nodeAt
-node-split [] n l h e = absurd (omega arith)
-node-split (x ∷ t) zero l h e = ap (λ (y : Node). y ∷ t) e
-node-split (x ∷ t) (suc n) l h e = ap (λ (u : List Node). x ∷ u) (node-split t n l (omega arith) e)
-
 module _ {bs : List ℕ} {capacity : ℕ} {h : Head} {cs : List Command} {s : State} {rest : List ℕ} (r : Reached bs capacity h cs s rest) where
   leaf-once : (l m n : ℕ) → m < length (s .nodes) → n < length (s .nodes) → nodeAt (s .nodes) m ≡ leaf l → nodeAt (s .nodes) n ≡ leaf l → m ≡ n
   leaf-once l m n i j p q = let k = reached-all r in all-formed (k .3) (formed-start h (k .2)) .sound .numbered .leaf-once m n l i j p q
@@ -86,8 +79,10 @@ module _ {bs : List ℕ} {capacity : ℕ} {h : Head} {cs : List Command} {s : St
 
   leaf-found : (l n : ℕ) → n < length (s .nodes) → nodeAt (s .nodes) n ≡ leaf l
       → lookupLeaf (s .nodes) l ≡ Found n (1 + length (leafLiterals (drop (suc n) (s .nodes))))
+  unfolding nodeAt
   leaf-found l n i e =
-      ap (λ (t : List Node). lookupLeaf t l) (node-split (s .nodes) n l i e)
+      ap (λ (t : List Node). lookupLeaf t l)
+      (split-at (s .nodes) n (leaf 0) i ∙ ap (λ (x : Node). take n (s .nodes) ++ (x ∷ drop (suc n) (s .nodes))) e)
       ∙ found-is (take n (s .nodes)) (drop (suc n) (s .nodes)) l (absent-after l n i e)
       ∙ ap (λ (k : ℕ). Found k (1 + length (leafLiterals (drop (suc n) (s .nodes))))) (length-take-le n (s .nodes) (omega arith))
 
