@@ -1,5 +1,7 @@
 // Numbers of a script and a log, read and written at a place of a slice. `specs/Number.antt` says what
 // a number's bytes are.
+#![tactic(auto)]
+
 ghost use Rattle.std.specs.Prelude.{◌≡◌, ◌+◌, ◌<◌, ◌≤◌, length, get_or};
 ghost use Rattle.number.specs.Number.{encode, read_from, read_at, written};
 
