@@ -10,7 +10,7 @@ use number::Reading;
 pub const MOST_CLAUSES: usize = (sizes::MOST_BYTES + 2) / 3;
 
 // A number of a log, with the place after it.
-#[derive(Drop)]
+#[derive(Clone, Copy)]
 pub struct Item {
     pub value: u32,
     pub end: usize,
