@@ -1,5 +1,7 @@
 // A script read at a place. `specs/Script.antt` says what its bytes are, `specs/Places.antt` what
 // stands at a place.
+#![tactic(auto)]
+
 ghost use Rattle.std.specs.Prelude.{◌≡◌, ◌≤◌, length};
 ghost use Rattle.player.specs.Places.{triple_at, side_at, arguments_at, next_at, head_at};
 
