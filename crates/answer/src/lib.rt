@@ -1,4 +1,6 @@
 // The answer of a play: six numbers, and their bytes.
+#![tactic(auto)]
+
 ghost use Rattle.std.specs.Prelude.{◌≡◌, length};
 ghost use Rattle.answer.specs.Coded.{bytes_of, padded};
 

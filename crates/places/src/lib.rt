@@ -1,4 +1,6 @@
 // The clauses of a log by their places. Any bytes are read to their end: `specs/Walk.antt` says as what.
+#![tactic(auto)]
+
 ghost use Rattle.std.specs.Prelude.{◌≡◌, cond, [], ◌∷◌, ◌++◌, ◌+◌, ◌*◌, ◌≤◌, ◌<◌, length, take};
 ghost use Rattle.sizes.specs.Sizes.{most_bytes};
 ghost use Rattle.places.specs.Walk;
