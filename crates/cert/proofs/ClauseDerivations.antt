@@ -1,5 +1,5 @@
 -- A clause's derivation, in normal form after every token, comes to the clause: this definition, plus left, plus right, saturated.
-use mathlib.Core.Path.{◌≡◌, ◌∙◌, ap, refl, sym}
+use mathlib.Core.Path.{◌≡◌, ◌∙◌, ap, refl, sym, subst}
 use mathlib.Core.Logic.{◌≢◌, dite}
 use mathlib.Core.List.{List, [], ◌∷◌, ◌++◌, map, append_assoc}
 use mathlib.Core.Option.{Option, some}
@@ -71,7 +71,7 @@ module _ (sums : ℕ → Option Sum) (m : ℕ) (left right : List Token) (ls rs 
       (clean_room _ clean) f in
       let tidy : Clean (keep a (neg p) ((length ls + length rs + 1 - v) · o ∷ units (map neg rs))) =
       Apart-clean _ (Apart-keep a (neg p) ((length ls + length rs + 1 - v) · o ∷ units (map neg rs))
-      (λ h. (rw variable_neg (i h), rw variable_neg (off_negs (variable p) rs (off h)))) (off_negs (variable o) rs own, apart_negs rs apart)) in
+      (λ h. (rw variable_neg (i h), subst (λ (x : ℕ). Off x (units (map neg rs))) (sym (variable_neg p)) (off_negs (variable p) rs (off h)))) (off_negs (variable o) rs own, apart_negs rs apart)) in
       let y = like_more x (same_room _ _ (same_trans x.same (half ls rs o p q v a b ha hb s)) tidy) g in
       evaluate_gives (gives_saturate y.gives) ∙ ap some (if_clause_lem ls rs o p q v a b ha hb s i j k y.value y.same)
 

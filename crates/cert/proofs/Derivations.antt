@@ -93,7 +93,7 @@ module _ {sums : ℕ → Option Sum} where
       let two : Clean t.terms = clean_less _ _ (λ l. omega (arith, add_at s (addition t (totalSum ss)) l, add_at t (totalSum ss) l)) c in
       gives_as (addition s (addition t (totalSum ss)))
       (normal_same (addition (addition s t) (totalSum ss)) (addition s (addition t (totalSum ss))) (same_assoc s t (totalSum ss)))
-      (gives_total (gives_add g h (clean_room s one) (clean_room t two)) p whole)
+      (gives_total {ks = ks ++ j ∷ (js ++ add ∷ [])} (gives_add g h (clean_room s one) (clean_room t two)) p whole)
 
   pub gives_parts : {kss : List (List Token)} {ss : List Sum} → Parts sums kss ss → 0 < length ss → Clean (totalSum ss).terms
       → Gives sums (total [] kss) (totalSum ss)

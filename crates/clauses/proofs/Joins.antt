@@ -3,7 +3,7 @@ use mathlib.Core.Path.{◌≡◌, refl, sym, ap, subst, ◌∙◌}
 use mathlib.Core.Bool.{Bool, true, false}
 use mathlib.Core.Logic.{dite}
 use mathlib.Core.List.{List, [], ◌∷◌}
-use Prim.Native.Nat.{ℕ, zero, suc, ◌+◌, ◌-◌, ◌≤◌, ◌<◌}
+use Prim.Native.Nat.{ℕ, zero, suc, ◌+◌, ◌≤◌, ◌<◌}
 use native.Mathlib.Decide.{dec_le}
 use native.Mathlib.Omega.{arith}
 use lib.ListN.{length, get_or}
@@ -12,7 +12,7 @@ use Rattle.pb.specs.Sum.{neg}
 use Rattle.totdb.specs.Nodes.{Node, node_at, len, leaves, output, from_first, side_len, side_lit, plain_or, keyed}
 use Rattle.totdb.specs.declared.Side.{Side}
 use Rattle.totdb.proofs.Sides.{keyed_zero, keyed_above, plain_keyed}
-use Rattle.cert.specs.Definitions.{Direction, window, one_def, side_def}
+use Rattle.cert.specs.Definitions.{Direction, one_def, side_def}
 use Rattle.cert.specs.Requests.{neg_part, pos_part}
 use Rattle.cert.specs.Sized.{Sized, Fit}
 use Rattle.cert.specs.State.{Stored, step_in}

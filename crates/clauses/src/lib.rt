@@ -1,4 +1,6 @@
 // A clause of a join, with the definitions that it looks up.
+#![tactic(auto)]
+
 ghost use Rattle.std.specs.Prelude.{◌≡◌, Bool, List, ℕ, ◌≤◌, ◌<◌, ◌+◌, ◌-◌, ◌*◌, ◌^◌, length, get_or};
 ghost use Rattle.sizes.specs.Sizes.{most_nodes, width, store_row, store_at};
 ghost use Rattle.memo.specs.Visit.{each};

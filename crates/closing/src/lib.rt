@@ -1,4 +1,6 @@
 // The record of a close: the steps of every stored definition, by the trail of the store.
+#![tactic(auto)]
+
 ghost use Rattle.std.specs.Prelude.{◌≡◌, List, ◌+◌, ◌≤◌, ◌<◌, length};
 ghost use Rattle.record.specs.Record.{numbers, steps, deletion};
 ghost use Rattle.record.specs.Writing.{buffer, Puts};

@@ -13,7 +13,7 @@ use totdb::Side;
 
 // How far the play is: the place of the log's next byte, the next step, the clauses, the nodes, the leaves among them, and the
 // next variable.
-#[derive(Drop)]
+#[derive(Clone, Copy)]
 pub struct Totals {
     pub at: usize,
     pub step: u32,
@@ -24,7 +24,7 @@ pub struct Totals {
 }
 
 // The number of the question that a command fails, 0 for none, and the totals after it.
-#[derive(Drop)]
+#[derive(Clone, Copy)]
 pub struct CommandEnd {
     pub number: u32,
     pub totals: Totals,

@@ -1,5 +1,7 @@
 // Definitions by the places of their first steps in the store: looked up, and written whole at their first lookup.
 // `specs/Store.antt` says where these places are, `specs/Represents.antt` what state the memory represents.
+#![tactic(auto)]
+
 ghost use Rattle.std.specs.Prelude.{◌≡◌, ℕ, ◌+◌, ◌^◌, ◌≤◌, ◌<◌, length};
 ghost use mathlib.Core.List.{List, flat_map};
 ghost use Rattle.sizes.specs.Sizes.{most_bytes, width, clauses_at, store_start, store_at};

@@ -1,12 +1,9 @@
 -- The numbers of a clause's two records, as `put_clause_step` and `put_clause` write them.
 use mathlib.Core.Path.{◌≡◌, refl, sym}
 use mathlib.Core.List.{List, [], ◌∷◌, ◌++◌, append_assoc, append-nil}
-use mathlib.Core.Logic.{⊎_elim}
 use Prim.Native.Nat.{ℕ, ◌+◌, ◌*◌}
 use native.Mathlib.Omega.{arith}
-use denote.Enum.Declared.{tag_of}
 use lib.ListN.{length, length-append}
-use types.Run.{OneOf}
 use Rattle.pb.specs.Rules.{Token, saturate}
 use Rattle.record.specs.Record.{clause, derivation, numbers, token_numbers}
 use Rattle.record.proofs.Tokens.{tokens_append}
@@ -18,39 +15,37 @@ use Rattle.derivation.specs.declared.Part.{Part}
 use Rattle.derivation.specs.declared.Whole.{Whole}
 use Rattle.derivation.specs.declared.SemDefinition.{SemDefinition}
 use Rattle.derivation.specs.declared.SemDefinition.TheVariants.{None, Step, Axiom}
-use Rattle.derivation.specs.contracts.SemDefinition.{the_type}
 
--- ---- what an `else` leaves: a proof is told only which tags the value may have
+-- ---- what an `else` leaves: a proof is told which variants the value is not
 
-pub is_none : (d : SemDefinition) → OneOf (0 ∷ 2 ∷ []) (tag_of the_type d) → OneOf (0 ∷ 1 ∷ []) (tag_of the_type d) → d ≡ None
+pub is_none : (d : SemDefinition) → ((n : ℕ) → d ≡ Step n → ⊥) → ((l : ℕ) → d ≡ Axiom l → ⊥) → d ≡ None
 is_none None g h = refl
-is_none (Step n) g h = absurd (⊎_elim (λ e. omega arith) (λ e. omega arith) g)
-is_none (Axiom l) g h = absurd (⊎_elim (λ e. omega arith) (λ e. omega arith) h)
+is_none (Step n) g h = absurd (g n refl)
+is_none (Axiom l) g h = absurd (h l refl)
 
-pub one_token : (d : SemDefinition) → OneOf (1 ∷ 2 ∷ []) (tag_of the_type d) → 1 ≡ length (tokens d)
+pub one_token : (d : SemDefinition) → (d ≡ None → ⊥) → 1 ≡ length (tokens d)
 unfolding tokens
-one_token None h = ⊎_elim (λ e. omega arith) (λ e. omega arith) h
+one_token None h = absurd (h refl)
 one_token (Step n) h = refl
 one_token (Axiom l) h = refl
 
-pub token_is : (d : SemDefinition) → OneOf (1 ∷ 2 ∷ []) (tag_of the_type d) → token_numbers (tokens d) ≡ token_code d ∷ token_argument d ∷ []
+pub token_is : (d : SemDefinition) → (d ≡ None → ⊥) → token_numbers (tokens d) ≡ token_code d ∷ token_argument d ∷ []
 unfolding token_numbers tokens token_code token_argument
-token_is None h = absurd (⊎_elim (λ e. omega arith) (λ e. omega arith) h)
+token_is None h = absurd (h refl)
 token_is (Step n) h = refl
 token_is (Axiom l) h = refl
 
-pub no_axiom : (d : SemDefinition) → OneOf (0 ∷ 1 ∷ []) (tag_of the_type d) → token_code d ≡ 0
+pub no_axiom : (d : SemDefinition) → ((l : ℕ) → d ≡ Axiom l → ⊥) → token_code d ≡ 0
 unfolding token_code
 no_axiom None h = refl
 no_axiom (Step n) h = refl
-no_axiom (Axiom l) h = absurd (⊎_elim (λ e. omega arith) (λ e. omega arith) h)
+no_axiom (Axiom l) h = absurd (h l refl)
 
 -- ---- the derivation of a clause's step
 
-pub added_some : (d : SemDefinition) → OneOf (1 ∷ 2 ∷ []) (tag_of the_type d)
-    → token_numbers (add_sequence [] (tokens d)) ≡ token_numbers (tokens d) ++ (2 ∷ [])
+pub added_some : (d : SemDefinition) → (d ≡ None → ⊥) → token_numbers (add_sequence [] (tokens d)) ≡ token_numbers (tokens d) ++ (2 ∷ [])
 unfolding token_numbers add_sequence tokens
-added_some None h = absurd (⊎_elim (λ e. omega arith) (λ e. omega arith) h)
+added_some None h = absurd (h refl)
 added_some (Step n) h = refl
 added_some (Axiom l) h = refl
 

@@ -1,4 +1,6 @@
 // Writers of a clause's two records, the derivation of its step and the clause, and of a window's summands.
+#![tactic(auto)]
+
 ghost use Rattle.std.specs.Prelude.{◌≡◌, [], ◌∷◌, ◌++◌, ℕ, ◌+◌, ◌≤◌, length};
 ghost use Rattle.sizes.specs.Sizes.{most_bytes, width};
 ghost use Rattle.pb.specs.Rules.{step, add, divide, saturate};
@@ -9,7 +11,7 @@ ghost use Rattle.cert.specs.Definitions.{Key, add_sequence, if_part, only_if_par
 ghost use Rattle.derivation.specs.Operands.{step_after, next_step, part, step_tokens, tokens, token_code, token_argument, clause_numbers, clause_room, whole_numbers};
 
 // A definition as a derivation adds it: nothing, the step that defines it, or a literal axiom.
-#[derive(Drop)]
+#[derive(Clone, Copy)]
 pub enum SemDefinition {
     None,
     Step(u32),
@@ -17,14 +19,14 @@ pub enum SemDefinition {
 }
 
 // One of the two literals of a clause that may be absent.
-#[derive(Drop)]
+#[derive(Clone, Copy)]
 pub enum Part {
     Absent,
     Literal(u32),
 }
 
 // A clause with its step: the parts that there are, then the output.
-#[derive(Drop)]
+#[derive(Clone, Copy)]
 pub struct Clause {
     pub step: u32,
     pub left: Part,
@@ -219,7 +221,7 @@ pub fn put_clause(
 // ---- a clause with both parts, whose step adds up three steps, as in most: the records are those of `push_both`
 
 // The numbers of such a clause, and of the derivation of its step.
-#[derive(Drop)]
+#[derive(Clone, Copy)]
 pub struct Whole {
     pub this: u32,
     pub left: u32,

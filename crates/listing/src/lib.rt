@@ -1,4 +1,6 @@
 // The clauses of a log as lines of text, in their order. `specs/Line.antt` says of any bytes what is printed.
+#![tactic(auto)]
+
 ghost use mathlib.Core.List.{map, flat_map};
 ghost use Rattle.std.specs.Prelude.{◌≤◌, length};
 ghost use Rattle.sizes.specs.Sizes.{most_bytes};

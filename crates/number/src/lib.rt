@@ -9,7 +9,7 @@ ghost use Rattle.number.specs.Number.{encode, read_from, read_at, written};
 pub const GROUPS: usize = 4;
 
 // What stands at a place: a number, with the place after it; or bytes that are no number.
-#[derive(Drop)]
+#[derive(Clone, Copy)]
 pub enum Reading {
     Number(u32, usize),
     Bad,

@@ -1,4 +1,6 @@
 // The clauses of a log by their places. Any bytes are read to their end: `specs/Walk.antt` says as what.
+#![tactic(auto)]
+
 ghost use Rattle.std.specs.Prelude.{◌≡◌, cond, [], ◌∷◌, ◌++◌, ◌+◌, ◌*◌, ◌≤◌, ◌<◌, length, take};
 ghost use Rattle.sizes.specs.Sizes.{most_bytes};
 ghost use Rattle.places.specs.Walk;
@@ -10,7 +12,7 @@ use number::Reading;
 pub const MOST_CLAUSES: usize = (sizes::MOST_BYTES + 2) / 3;
 
 // A number of a log, with the place after it.
-#[derive(Drop)]
+#[derive(Clone, Copy)]
 pub struct Item {
     pub value: u32,
     pub end: usize,

@@ -32,7 +32,7 @@ use Rattle.cert.proofs.Known.{KnownIn, known_of, known_define, known_more, real_
 use Rattle.cert.proofs.Rules.{ClauseForm, an_if, an_only_if, clause_form}
 use Rattle.cert.proofs.Serving.{define_keys, key_no_clauses, Asked, serve_keeps}
 use Rattle.cert.proofs.SideTokens.{node_off, side_only, side_if}
-use Rattle.cert.proofs.Totalizer.{real_if, real_only_if}
+use Rattle.cert.proofs.Totalizer.{real_if_sum, real_only_if_sum}
 use Rattle.cert.proofs.WindowDerivations.{real_if_clean, real_only_clean}
 use Rattle.player.specs.Formed.{Sound}
 use Rattle.player.specs.Passes.{AllPassed}
@@ -152,8 +152,8 @@ module _ (h : Head) (t : List Node) (sz : Sized t) (d : Distinct t) (s : State) 
 
       -- The real definitions of this value, and the step of each.
       reals : List (Option Sum)
-      reals = some (normal (real_if (leaves (node_at t n)) (output (node_at t n) v) v)) ∷ some
-          (normal (real_only_if (leaves (node_at t n)) (output (node_at t n) v) v)) ∷ []
+      reals = some (normal (real_if_sum (leaves (node_at t n)) (output (node_at t n) v) v)) ∷ some
+          (normal (real_only_if_sum (leaves (node_at t n)) (output (node_at t n) v) v)) ∷ []
 
       this_step : (i : ℕ) → i < 2 → (e : Definition) → e ≡ stored (real n v) i → Has s e
           → step_sum h.step (known_of h s) (step_in s.stored (real n v) i) ≡ get_or reals i none

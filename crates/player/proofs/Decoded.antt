@@ -19,7 +19,7 @@ use Rattle.record.proofs.Decode.{Small, decode_bytes}
 use Rattle.totdb.specs.Nodes.{Node, len, leaf, join, output, leaves, node_at, side_len, side_lit, side_outputs, outputs, range, plain_or, side_leaves, known, joined}
 use Rattle.totdb.specs.declared.Side.{Side}
 use Rattle.cert.specs.Counted.{Counted}
-use Rattle.cert.specs.Definitions.{Direction, one_def, if, only_if, real_def, stored, real, window_def, window, side_def, defined_by, Key, window_zero, key_records}
+use Rattle.cert.specs.Definitions.{Direction, one_def, if, only_if, real_def, real, window_def, window, side_def, defined_by, Key, window_zero, key_records}
 use Rattle.cert.specs.Equal.{key_dec}
 use Rattle.cert.specs.Requests.{neg_part, pos_part, Clause, definition, Request, clauses_of, request, if_clause, only_if_clause, clause_tokens, Right}
 use Rattle.cert.specs.Sized.{Sized, Fit}

@@ -4,7 +4,7 @@ use mathlib.Core.Bool.{Bool, true, false}
 use mathlib.Core.Logic.{◌⊎◌, inl, inr, ⊎_elim}
 use mathlib.Core.List.Memᴰ
 use mathlib.Core.List.{List, [], ◌∷◌, ◌++◌, append_assoc, Memᴰ}
-use Prim.Native.Nat.{ℕ, zero, suc, ◌+◌, ◌≤◌, ◌<◌}
+use Prim.Native.Nat.{ℕ, zero, suc, ◌≤◌, ◌<◌}
 use native.Mathlib.Omega.{arith}
 use lib.ListN.{length, length-append}
 use Rattle.sizes.specs.Sizes.{most_head, most_bytes}
@@ -231,7 +231,7 @@ one_step {bs} {capacity} {h} {cs} {s} {rest} w r go = by (read_command a.closed 
 walk : {bs : List ℕ} {capacity : ℕ} {h : Head} {cs : List Command} {s : State} {rest : List ℕ} (k : ℕ) → length rest ≤ k → Bytes bs
     → Reached bs capacity h cs s rest → Some bs capacity
 walk zero l w r = one_step w r (λ c more m q. absurd (omega arith))
-walk (suc k) l w r = one_step w r (λ c more m q. walk k (omega arith) w q)
+walk {cs = cs} (suc k) l w r = one_step w r (λ c more m q. walk {cs = cs ++ c ∷ []} k (omega arith) w q)
 
 some_verdict : (bs : List ℕ) (capacity : ℕ) → Bytes bs → Some bs capacity
 some_verdict bs capacity w = by (sizes bs capacity)

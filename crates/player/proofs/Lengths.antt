@@ -13,7 +13,7 @@ use Rattle.sizes.specs.Sizes.{most_bytes, most_leaves}
 use Rattle.number.specs.Number.{encode}
 use Rattle.pb.specs.Sum.{variable, neg}
 use Rattle.memo.proofs.Lists.{flat_map_append}
-use Rattle.record.specs.Record.{Record, numbers, bytes, steps, clauses, derivation, clause, deletion}
+use Rattle.record.specs.Record.{Record, numbers, bytes, derivation, clause, deletion}
 use Rattle.totdb.specs.Nodes.{Node, leaf, join, node_at, leaves, len, range, known, leaf_count, taken}
 use Rattle.totdb.specs.declared.Side.{Side}
 use Rattle.cert.specs.Definitions.{key_records}

@@ -11,7 +11,6 @@ use borrow.Author.Tests.{eq-eqb, ne_eqb}
 use lib.Dec.{eqb}
 use lib.ListN.{length, length-append}
 use Rattle.sizes.specs.Sizes.{most_leaves, width}
-use Rattle.pb.specs.Sum.{variable}
 use Rattle.totdb.specs.Nodes.{Node, taken, node_at, any, is_over, join, leaf, leaf_count, len, known, leaves, join_of, joined, side_leaves, side_len}
 use Rattle.totdb.specs.declared.Side.{Side}
 use Rattle.totdb.proofs.Leaves.{leaf_count-leaf, leaf_count-join}

@@ -1,5 +1,7 @@
 // A script read at a place. `specs/Script.antt` says what its bytes are, `specs/Places.antt` what
 // stands at a place.
+#![tactic(auto)]
+
 ghost use Rattle.std.specs.Prelude.{◌≡◌, ◌≤◌, length};
 ghost use Rattle.player.specs.Places.{triple_at, side_at, arguments_at, next_at, head_at};
 
@@ -8,7 +10,7 @@ use totdb::Side;
 
 // A leaf with its literal; a join of two sides; a request of a node's value in a direction (1 if,
 // 2 only-if, 3 both); a close.
-#[derive(Drop)]
+#[derive(Clone, Copy)]
 pub enum Command {
     Leaf(u32),
     Join(Side, Side),
@@ -18,7 +20,7 @@ pub enum Command {
 
 // What stands at a place: a command, with the place after it; or a command that fails the question
 // of a number; or nothing, where a code would stand.
-#[derive(Drop)]
+#[derive(Clone, Copy)]
 pub enum CommandReading {
     Command(Command, usize),
     Refuse(u32),
@@ -26,20 +28,20 @@ pub enum CommandReading {
 }
 
 // Three numbers in a row, with the place after them.
-#[derive(Drop)]
+#[derive(Clone, Copy)]
 pub enum TripleReading {
     Triple(u32, u32, u32, usize),
     Bad,
 }
 
-#[derive(Drop)]
+#[derive(Clone, Copy)]
 pub enum SideReading {
     Side(Side, usize),
     Bad,
 }
 
 // The first variable and the first step, with the place after them.
-#[derive(Drop)]
+#[derive(Clone, Copy)]
 pub enum HeadReading {
     Head(u32, u32, usize),
     Bad,

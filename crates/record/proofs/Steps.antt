@@ -16,8 +16,8 @@ pub sums_append : (first : ℕ) (known : List (Option Sum)) (rs qs : List Record
     → sums_after first known (rs ++ qs) ≡ sums_after first (sums_after first known rs) qs
 unfolding sums_after
 sums_append first known [] qs = refl
-sums_append first known (sum w ts b ∷ rs) qs = sums_append first _ rs qs
-sums_append first known (derivation ks ∷ rs) qs = sums_append first _ rs qs
+sums_append first known (sum w ts b ∷ rs) qs = sums_append first (known ++ (some (normal (ts ≥ b)) ∷ [])) rs qs
+sums_append first known (derivation ks ∷ rs) qs = sums_append first (known ++ (evaluate (step_sum first known) ks ∷ [])) rs qs
 sums_append first known (clause s ls ∷ rs) qs = sums_append first known rs qs
 sums_append first known (deletion ss ∷ rs) qs = sums_append first known rs qs
 

@@ -3,13 +3,13 @@ use answer::Answer;
 use libc::STDIN_FILENO;
 use number::Reading;
 
-#[derive(Drop)]
+#[derive(Clone, Copy)]
 pub enum AnswerReading {
     Answer(Answer),
     Bad,
 }
 
-#[derive(Drop)]
+#[derive(Clone, Copy)]
 enum ByteReading {
     Byte(u8),
     End,

@@ -15,7 +15,7 @@ use number::Reading;
 // So many cases that are not met are shown.
 const SHOWN: u32 = 5;
 
-#[derive(Drop)]
+#[derive(Clone, Copy)]
 enum Played {
     Met,
     Unmet,

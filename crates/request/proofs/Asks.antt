@@ -7,8 +7,8 @@ use native.Mathlib.Omega.{arith}
 use borrow.Author.Tests.{eqb-true, eqb-false}
 use lib.Dec.{eqb}
 use lib.ListN.{length, get_or}
-use Rattle.sizes.specs.Sizes.{width, row, kind_column, kind_at, store_at}
-use Rattle.totdb.specs.Nodes.{Node, leaf, join, node_at, len}
+use Rattle.sizes.specs.Sizes.{width, kind_column, kind_at, store_at}
+use Rattle.totdb.specs.Nodes.{Node, leaf, join, node_at}
 use Rattle.totdb.specs.declared.Side.{Side}
 use Rattle.cert.specs.Definitions.{Direction}
 use Rattle.cert.specs.Requests.{request, needs, needs_at, below, named, Right}

@@ -1,4 +1,6 @@
 // Requests, down the tree: a node turns to its join's sides and a side to its node.
+#![tactic(auto)]
+
 ghost use Rattle.std.specs.Prelude.{◌≡◌, ◌+◌, ◌-◌, ◌≤◌, ◌<◌, min, max, eqb, length, get_or, set};
 ghost use Rattle.sizes.specs.Sizes.{most_nodes, width, row, row_at, kind_at, held_at};
 ghost use Rattle.memo.specs.Visit.{each};

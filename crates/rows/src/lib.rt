@@ -1,4 +1,6 @@
 // The table of the nodes, read. `specs/Rows.antt` says what its numbers stand for.
+#![tactic(auto)]
+
 ghost use Rattle.std.specs.Prelude.{◌≡◌, ◌+◌, ◌<◌, length, get_or};
 ghost use Rattle.sizes.specs.Sizes.{row_at};
 ghost use Rattle.rows.specs.Rows.{read_shown, read_join, SidePlace, JoinPlace};
@@ -7,7 +9,7 @@ use totdb::Side;
 
 // A side as the table has it: its length; its node's output of value 1; the place of its window's first steps, where it is a
 // window of two outputs or more.
-#[derive(Drop)]
+#[derive(Clone, Copy)]
 pub struct Shown {
     pub side: Side,
     pub len: usize,
@@ -16,7 +18,7 @@ pub struct Shown {
 }
 
 // A join: its number, its output of value 1, and its sides.
-#[derive(Drop)]
+#[derive(Clone, Copy)]
 pub struct Join {
     pub node: usize,
     pub first: u32,

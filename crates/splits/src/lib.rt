@@ -1,4 +1,6 @@
 // The clauses of a value in one direction, one for each split of a sum over the two sides.
+#![tactic(auto)]
+
 ghost use Rattle.std.specs.Prelude.{◌≡◌, List, [], ◌∷◌, ℕ, ◌≤◌, ◌<◌, ◌+◌, ◌-◌, min, length, get_or};
 ghost use Rattle.sizes.specs.Sizes.{width, step_stop, store_at};
 ghost use Rattle.memo.specs.Visit.{each};

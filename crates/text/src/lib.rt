@@ -1,4 +1,6 @@
 // Writers of text into a slice, as far as it reaches. `specs/Text.antt` says what is written.
+#![tactic(auto)]
+
 ghost use Rattle.std.specs.Prelude.{◌≡◌, [], ◌∷◌, ◌+◌, ◌<◌};
 ghost use Rattle.text.specs.Text.{page, Prints};
 ghost use Rattle.text.specs.Text.{decimal as Text·decimal, spaced as Text·spaced};

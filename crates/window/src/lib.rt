@@ -1,4 +1,6 @@
 // Writers of the records of a window's key: the two derivations of each of its values, then the sum of its negated outputs.
+#![tactic(auto)]
+
 ghost use Rattle.std.specs.Prelude.{◌≡◌, ℕ, ◌+◌, ◌-◌, ◌*◌, ◌≤◌, ◌<◌, length};
 ghost use mathlib.Core.List.{List, flat_map};
 ghost use Rattle.sizes.specs.Sizes.{width};

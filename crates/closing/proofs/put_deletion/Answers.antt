@@ -1,0 +1,17 @@
+-- `closing::put_deletion` meets its contract: the kind, the count and the steps, one after another.
+use Rattle.record.specs.Record.{numbers}
+use Rattle.record.proofs.Writing.{after}
+use Rattle.closing.proofs.put_deletion.Goals as goal
+
+pub count_stored-requires : goal.count_stored-requires
+count_stored-requires c = c.requires
+
+pub put_stored-requires : goal.put_stored-requires
+put_stored-requires c =
+    c.requires
+
+pub returns : goal.returns
+unfolding numbers
+returns c =
+    λ t es l.
+    after c.put-after_kind.ensures (after (rw (c.count_stored.ensures t es l) at c.put-after_count.ensures) (c.put_stored.ensures t es l))

@@ -1,0 +1,70 @@
+-- `define::look_up_real` meets its contract: the log is too short, the key is stored, or its records are written.
+use Rattle.std.proofs.Common.{rules, arith}
+use mathlib.Core.Path.{refl}
+use Prim.Native.Nat.{◌+◌}
+use Rattle.sizes.specs.Sizes.{list_column, store_at}
+use Rattle.totdb.specs.Nodes.{node_at}
+use Rattle.cert.specs.Definitions.{real, pulls}
+use Rattle.define.specs.Store.{slot}
+use Rattle.define.specs.Represents.{memory}
+use Rattle.define.proofs.Codes.{part_short, real_bounds, row_length, real_node, real_writes, real_count}
+use Rattle.define.proofs.Looks.{look_up_grows, sims_there, sims_define, sims_new}
+use Rattle.define.proofs.Simulates.{sims_full}
+use Rattle.define.proofs.Slots.{real_named}
+use Rattle.define.proofs.look_up_real.Goals as goal
+
+pub returns-then-log-at : goal.returns-then-log-at
+returns-then-log-at c =
+    sims_full {m = memory c.args.store.now c.args.log.now c.args.at} (look_up_grows (real c.args.node c.args.value)) c.if-log-at.true
+
+pub overflow_add-slot : goal.overflow_add-slot
+overflow_add-slot c =
+    let b = real_bounds c.requires in
+    search rules
+
+pub offset_bounds-store-slot : goal.offset_bounds-store-slot
+offset_bounds-store-slot c =
+    let b = real_bounds c.requires in
+    search rules
+
+pub bounds-store-slot : goal.bounds-store-slot
+bounds-store-slot c =
+    let b = real_bounds c.requires in
+    search rules
+
+pub returns-then-store-slot-ne0 : goal.returns-then-store-slot-ne0
+unfolding slot
+returns-then-store-slot-ne0 c =
+    sims_there (real c.args.node c.args.value) (store_at c.args.node + c.args.value) (memory c.args.store.now c.args.log.now c.args.at) c.if-log-at.false
+    (λ t s l p. real_named l.bounded p) (λ t s l p. refl) (rw c.store_at.ensures at c.if-store-slot-ne0.true)
+
+pub slice_bounds-put_real-end : goal.slice_bounds-put_real-end
+slice_bounds-put_real-end c =
+    let b = real_bounds c.requires in
+    omega (arith, b.there, b.short, row_length c.args.nodes.now c.args.node c.args.value c.row_at-row.ensures c.number_at-len.ensures.0, c.row_at-row.ensures)
+
+pub put_real-end-requires : goal.put_real-end-requires
+put_real-end-requires c =
+    let b = real_bounds c.requires in
+    let k = row_length c.args.nodes.now c.args.node c.args.value c.row_at-row.ensures c.number_at-len.ensures.0 in
+    record { l_len_bound = (part_short (c.row_at-row.result + list_column) c.number_at-len.result c.args.nodes.now (omega (arith, b.short, k)), b.values, rw c.row_at-row.ensures b.low); node_of = (node_at c.requires.nodes c.args.node, real_node c.args.nodes.now c.args.node c.args.value c.row_at-row.ensures c.number_at-len.ensures.0 c.requires.nodes c.requires.table c.requires.holds) }
+
+pub store_key-requires : goal.store_key-requires
+store_key-requires c =
+    let b = real_bounds c.requires in
+    (omega (arith, c.store_at.ensures), omega (arith, c.store_at.ensures, b.room, b.values), omega (arith, c.store_at.ensures, b.nodes, b.values), omega (arith, c.count_real.ensures.upper_bound))
+
+pub returns : goal.returns
+unfolding slot pulls
+returns c =
+    let k = real c.args.node c.args.value in
+    let m = memory c.args.store.now c.args.log.now c.args.at in
+    let p = store_at c.args.node + c.args.value in
+    let on = (c.put_real-end.ensures (node_at c.requires.nodes c.args.node)
+    (real_node c.args.nodes.now c.args.node c.args.value c.row_at-row.ensures c.number_at-len.ensures.0 c.requires.nodes c.requires.table c.requires.holds)).onward in
+    sims_new k p m c.if-log-at.false (λ t s l q. real_named l.bounded q) (λ t s l q. refl) refl (rw c.store_at.ensures at c.if-store-slot-ne0.false)
+    (sims_define k p m c.if-log-at.false (λ t s l q. real_named l.bounded q) (λ t s l q. refl) c.count_real.result
+    (λ _ t s l q _ _. real_writes c.args.nodes.now c.args.node c.args.value c.row_at-row.ensures c.number_at-len.ensures.0 c.put_real-end.ensures t _ l q)
+    on
+    (λ t s f l q. real_count c.args.nodes.now c.args.node c.args.value c.row_at-row.ensures c.number_at-len.ensures.0 c.count_real.ensures.value t f l q)
+    (rw c.store_at.ensures at c.store_key.ensures))

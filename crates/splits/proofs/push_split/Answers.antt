@@ -1,0 +1,93 @@
+-- `splits::push_split` meets its contract: the records of the clause, by the steps and literals that the code has.
+use Rattle.std.proofs.Common.{arith}
+use mathlib.Core.Path.{ap, ◌∙◌}
+use mathlib.Core.Bool.{not}
+use Rattle.cert.specs.Requests.{definition}
+use Rattle.derivation.specs.declared.SemDefinition.TheVariants.{Step}
+use Rattle.define.proofs.Simulates.{exact_of, store_room}
+use Rattle.define.proofs.Slots.{real_named}
+use Rattle.clauses.specs.Joins.{ClauseIn, clause_of}
+use Rattle.clauses.proofs.Firsts.{real_read, first_low}
+use Rattle.clauses.proofs.Joins.{left_in, right_in, this_in, clause_reach}
+use Rattle.clauses.proofs.Written.{firsts_of, sims_write, three_parts}
+use Rattle.splits.proofs.Ready.{long_sides, long_used, long_operand, whole_puts}
+use Rattle.splits.proofs.push_split.Goals as goal
+
+pub overflow_add-this : goal.overflow_add-this
+overflow_add-this c =
+    let r = clause_reach c.requires.by_index.1.holds c.requires.by_index.1.table.bounded c.args.store.now (store_room c.requires.by_index.1.represents) in
+    omega (arith, c.store_at.ensures, r.row, r.within)
+
+pub offset_bounds-store-store_at : goal.offset_bounds-store-store_at
+offset_bounds-store-store_at c =
+    let r = clause_reach c.requires.by_index.1.holds c.requires.by_index.1.table.bounded c.args.store.now (store_room c.requires.by_index.1.represents) in
+    omega (arith, c.store_at.ensures, r.row, r.within)
+
+pub bounds-store-store_at : goal.bounds-store-store_at
+bounds-store-store_at c =
+    let r = clause_reach c.requires.by_index.1.holds c.requires.by_index.1.table.bounded c.args.store.now (store_room c.requires.by_index.1.represents) in
+    omega (arith, c.store_at.ensures, r.row, r.within)
+
+pub first_of-left-requires : goal.first_of-left-requires
+first_of-left-requires c =
+    let r = clause_reach c.requires.by_index.1.holds c.requires.by_index.1.table.bounded c.args.store.now (store_room c.requires.by_index.1.represents) in
+    r.left
+
+pub first_of-right-requires : goal.first_of-right-requires
+first_of-right-requires c =
+    let r = clause_reach c.requires.by_index.1.holds c.requires.by_index.1.table.bounded c.args.store.now (store_room c.requires.by_index.1.represents) in
+    r.right
+
+pub bounds-store-8193 : goal.bounds-store-8193
+bounds-store-8193 c =
+    omega (arith, store_room c.requires.by_index.1.represents)
+
+pub later_step-requires : goal.later_step-requires
+later_step-requires c =
+    let low = firsts_of (exact_of (omega (arith, c.requires.both_parts.1)) c.requires.by_index.1.represents) in
+    rw c.store_at.ensures (first_low low c.args.x.node c.args.value (real_named c.requires.by_index.1.table.bounded (this_in c.requires.by_index.1.holds c.requires.by_index.1.table.bounded)).used)
+
+pub later_step-requires-2 : goal.later_step-requires-2
+later_step-requires-2 c =
+    let low = firsts_of (exact_of (omega (arith, c.requires.both_parts.1)) c.requires.by_index.1.represents) in
+    let long = (long_sides c.args.x c.requires.both_parts.0.long).0 in
+    rw c.first_of-left.ensures (first_low low _ c.args.i (long_used c.requires.by_index.1.table.bounded (left_in c.requires.by_index.1.holds) long))
+
+pub later_step-requires-3 : goal.later_step-requires-3
+later_step-requires-3 c =
+    let low = firsts_of (exact_of (omega (arith, c.requires.both_parts.1)) c.requires.by_index.1.represents) in
+    let long = (long_sides c.args.x c.requires.both_parts.0.long).1 in
+    rw c.first_of-right.ensures (first_low low _ c.args.j (long_used c.requires.by_index.1.table.bounded (right_in c.requires.by_index.1.holds) long))
+
+pub part_literal-requires : goal.part_literal-requires
+part_literal-requires c =
+    let r = clause_reach c.requires.by_index.1.holds c.requires.by_index.1.table.bounded c.args.store.now (store_room c.requires.by_index.1.represents) in
+    (r.left.reach, c.requires.both_parts.0.left_above, c.requires.both_parts.0.left_within)
+
+pub part_literal-requires-2 : goal.part_literal-requires-2
+part_literal-requires-2 c =
+    let r = clause_reach c.requires.by_index.1.holds c.requires.by_index.1.table.bounded c.args.store.now (store_room c.requires.by_index.1.represents) in
+    (r.right.reach, c.requires.both_parts.0.right_above, c.requires.both_parts.0.right_within)
+
+pub own_literal-requires : goal.own_literal-requires
+own_literal-requires c =
+    let r = clause_reach c.requires.by_index.1.holds c.requires.by_index.1.table.bounded c.args.store.now (store_room c.requires.by_index.1.represents) in
+    record { first_bound = (r.first, r.above, r.within); join_in = (c.requires.by_index.1.nodes, c.requires.by_index.1.holds.of) }
+
+pub returns : goal.returns
+unfolding clause_of definition
+returns c =
+    let long = long_sides c.args.x c.requires.both_parts.0.long in
+    λ ns.
+    sims_write {ns = ns} {P = λ t s. ClauseIn t c.args.x c.args.value c.args.i c.args.j c.args.only_if}
+    (λ t. clause_of t c.args.x c.args.value c.args.i c.args.j c.args.only_if) (omega (arith, c.requires.both_parts.1)) c.push_whole.ensures.onward (λ n t s l p e.
+    whole_puts t (clause_of t c.args.x c.args.value c.args.i c.args.j c.args.only_if) s _
+    (ap Step (c.later_step.ensures c.args.value p.of.above)
+    ∙ rw c.store_at.ensures (real_read (firsts_of e) c.args.x.node c.args.value c.args.only_if (real_named l.bounded (this_in p l.bounded)).used))
+    (ap Step (c.later_step-2.ensures c.args.i c.requires.both_parts.0.left_above)
+    ∙ rw c.first_of-left.ensures (long_operand _ l.bounded (left_in p) (firsts_of e) (not c.args.only_if) long.0))
+    (ap Step (c.later_step-3.ensures c.args.j c.requires.both_parts.0.right_above)
+    ∙ rw c.first_of-right.ensures (long_operand _ l.bounded (right_in p) (firsts_of e) (not c.args.only_if) long.1))
+    (three_parts (c.part_literal.ensures t l.bounded (left_in p)) (c.part_literal-2.ensures t l.bounded (right_in p))
+    (c.own_literal.ensures t p.of))
+    e.stores.counters.step c.push_whole.ensures)

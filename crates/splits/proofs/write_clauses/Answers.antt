@@ -1,0 +1,56 @@
+use Rattle.std.proofs.Common.{arith}
+use mathlib.Core.Path.{refl, ◌∙◌}
+use Rattle.define.proofs.Simulates.{represented_to, represented_after}
+use Rattle.splits.proofs.Splits.{between, split_in, none_yet, one_more, all_done}
+use Rattle.splits.proofs.write_clauses.Goals as goal
+
+pub split_sum-sum-requires : goal.split_sum-sum-requires
+split_sum-sum-requires c = c.requires.holds.above
+
+pub overflow_add-a-end : goal.overflow_add-a-end
+overflow_add-a-end c =
+    let w = between c.requires c.split_sum-sum.ensures c.least-low.ensures c.greatest-high.ensures in
+    omega (arith, w.short)
+
+pub loop-a-init : goal.loop-a-init
+loop-a-init c =
+    let w = between c.requires c.split_sum-sum.ensures c.least-low.ensures c.greatest-high.ensures in
+    (w, refl, omega arith, omega (arith, w.some), refl, refl, none_yet _ _, c.are_long-long.ensures)
+
+pub left_value-i-requires : goal.left_value-i-requires
+left_value-i-requires c = omega (arith, c.loop-a.invariant.0.short)
+
+pub overflow_sub-value : goal.overflow_sub-value
+overflow_sub-value c = omega (arith, c.loop-a.invariant.0.within)
+
+pub write_split-p-requires : goal.write_split-p-requires
+write_split-p-requires c =
+    record {
+      long_value = c.loop-a.invariant.7;
+      represented = represented_to (λ t s l i. split_in c.loop-a.invariant.0 c.loop-a.a c.loop-a.invariant.2 (omega arith) c.left_value-i.ensures t i)
+          (represented_after (λ t s l i. i) c.loop-a.invariant.6 c.requires);
+    }
+
+pub overflow_step-a : goal.overflow_step-a
+overflow_step-a c = omega (arith, c.loop-a.invariant.0.short)
+
+pub loop-a-preserved : goal.loop-a-preserved
+loop-a-preserved c = (
+  c.loop-a.invariant.0,
+  refl,
+  omega arith,
+  omega arith,
+  c.write_split-p.auto.store ∙ c.loop-a.invariant.4,
+  c.write_split-p.auto.log ∙ c.loop-a.invariant.5,
+  one_more c.loop-a.a c.loop-a.invariant.0 c.loop-a.invariant.2 (omega arith) c.left_value-i.ensures c.loop-a.invariant.6 c.write_split-p.ensures,
+  c.loop-a.invariant.7,
+)
+
+pub shape_of-store : goal.shape_of-store
+shape_of-store c = c.loop-a.invariant.4
+
+pub shape_of-log : goal.shape_of-log
+shape_of-log c = c.loop-a.invariant.5
+
+pub returns : goal.returns
+returns c = all_done _ c.loop-a.invariant.0 (omega arith) c.loop-a.invariant.6
