@@ -10,7 +10,7 @@ use Rattle.pb.proofs.Normal.{Off}
 use Rattle.record.specs.Steps.{step_sum}
 use Rattle.totdb.specs.Nodes.{Node, len, join, leaves, node_at, leaf, side_lit, range, output, side_len, side_leaves, plain_or, limited, side_outputs, outputs}
 use Rattle.totdb.specs.declared.Side.{Side}
-use Rattle.cert.specs.Definitions.{real, real_def, only_if, stored, if, window, window_def, Key, pulls, window_zero, Definition, side_def, one_def}
+use Rattle.cert.specs.Definitions.{real, real_def, only_if, if, window, window_def, Key, pulls, window_zero, Definition, side_def, one_def}
 use Rattle.cert.specs.Requests.{of_side, key_of, def_tokens}
 use Rattle.cert.specs.Sized.{Fit, Sized}
 use Rattle.cert.specs.State.{State, keys, step_in, Head}

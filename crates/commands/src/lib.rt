@@ -1,4 +1,6 @@
 // The commands over the tables: questions 6 to 12 and 14, and what a command does that passes them.
+#![tactic(auto)]
+
 ghost use Rattle.std.specs.Prelude.{◌≡◌, List, ℕ, ◌<◌, length};
 ghost use Rattle.totdb.specs.Nodes.{Node};
 ghost use Rattle.cert.specs.State.{State, Head};

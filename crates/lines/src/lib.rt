@@ -1,4 +1,6 @@
 // The sheet of a script: the header and the lines of its clauses, or the refusal. `specs/Sheet.antt` says its bytes.
+#![tactic(auto)]
+
 ghost use Rattle.text.specs.Text.{page, Prints};
 ghost use Rattle.lines.specs.Sheet;
 

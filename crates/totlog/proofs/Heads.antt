@@ -12,7 +12,7 @@ use Rattle.number.specs.declared.Reading.{Reading}
 use Rattle.number.specs.declared.Reading.TheVariants.{Number, Bad}
 use Rattle.number.proofs.Places.{read_from-number}
 use Rattle.record.specs.Record.{bytes, steps, clauses}
-use Rattle.cert.specs.State.{Head, start}
+use Rattle.cert.specs.State.{start}
 use Rattle.player.specs.Places.{head_at, with_number}
 use Rattle.player.specs.Player.{Outcome, outcome, head_fits, played, play_script, refused_at_head}
 use Rattle.player.specs.declared.HeadReading.{HeadReading}
