@@ -15,7 +15,7 @@ use Rattle.cert.specs.Totalizer.{pairs}
 use Rattle.cert.specs.State.{State, start, serve, requests, stored_steps}
 use Rattle.cert.proofs.SchemaCases.{side}
 
--- The window of the last three of four outputs, 10 12 14: if and only_if of values 2, 3 and 4, and the value above.
+-- The window of the last three of four outputs, 10 12 14: if and only-if of values 2, 3 and 4, and the value above.
 pub window_sums : defined_by (join (0 ∷ 2 ∷ 4 ∷ 6 ∷ []) 4 (side 0 0) (side 1 0) ∷ []) (window 0 1 3) ≡
     derived (some ((2 · 10 ∷ 1 · 13 ∷ 1 · 15 ∷ []) ≥ 2)) ∷ derived (some ((1 · 12 ∷ 1 · 14 ∷ []) ≥ 0))
     ∷ derived (some ((1 · 11 ∷ 1 · 12 ∷ 1 · 15 ∷ []) ≥ 1)) ∷ derived (some ((1 · 10 ∷ 1 · 13 ∷ 1 · 14 ∷ []) ≥ 1))
@@ -67,7 +67,7 @@ pub stored_steps_lem : stored_steps table after.stored ≡ 1 ∷ 2 ∷ 5 ∷ 6 �
 unfolding table after serve requests start stored_steps
 stored_steps_lem = refl
 
--- What the clauses of two values of node 6 look up, left, right, this: of the window and of the leaf the only_if from 0 to the length, and the if from 1 to
+-- What the clauses of two values of node 6 look up, left, right, this: of the window and of the leaf the only-if from 0 to the length, and the if from 1 to
 -- one above it.
 unfoldable pub value_one : List (List Lookup)
 value_one =

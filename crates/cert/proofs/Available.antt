@@ -20,7 +20,7 @@ use Rattle.cert.proofs.Rules.{ClauseForm, an_if, an_only_if, clause_form}
 abbrev pub Available : List Node → Lookup → Type 0
 Available t l = Undefined t l → ⊥
 
--- ---- an if from value 1 on, an only_if up to the length
+-- ---- an if from value 1 on, an only-if up to the length
 
 module _ {t : List Node} {s : Side} (i : ℕ) where
   side_if : 1 ≤ i → Available t (of_side s i if)

@@ -68,7 +68,7 @@ sum_get : (l : List Defined) (i : ℕ) → get_or (map sum_of l) i none ≡ sum_
 unfolding sum_of
 sum_get l i = get_or-map sum_of l i (derived none)
 
--- The definitions of a window in their places: the if of its i-th value at 2 i, the only_if at 2 i + 1, counted from 0, and the last sum after them.
+-- The definitions of a window in their places: the if of its i-th value at 2 i, the only-if at 2 i + 1, counted from 0, and the last sum after them.
 pairs_at : {A : Type 0} (f g : ℕ → A) (a k : ℕ) (rest : List A) (z : A) (i : ℕ) → i < k
     → (get_or (flat_map {B = A} (λ (v : ℕ). f v ∷ g v ∷ []) (range a k) ++ rest) (2 * i) z ≡ f (a + i))
     × (get_or (flat_map {B = A} (λ (v : ℕ). f v ∷ g v ∷ []) (range a k) ++ rest) (2 * i + 1) z ≡ g (a + i))

@@ -25,13 +25,13 @@ pub data Key : Type 0 where
   window_zero window : ℕ → ℕ → ℕ → Key
 
 -- A definition in one direction (rustsat's SemDefinition): nothing to add, a literal axiom, or one of the steps of a key.
--- For a real definition the steps count from 0. For a window 0 is the sum of value 0, and the if and the only_if of its i-th value are 2i - 1 and 2i.
+-- For a real definition the steps count from 0. For a window 0 is the sum of value 0, and the if and the only-if of its i-th value are 2i - 1 and 2i.
 pub data Definition : Type 0 where
   nothing : Definition
   axiom_of : ℕ → Definition
   stored : Key → ℕ → Definition
 
--- The definitions of a value. Of an if at value 0 and of an only_if above the length, which there are not, they mean nothing.
+-- The definitions of a value. Of an if at value 0 and of an only-if above the length, which there are not, they mean nothing.
 
 -- A leaf, or a window of length 1: its one literal, at 0, at its own value and above.
 unfoldable pub one_def : ℕ → ℕ → Definition
@@ -40,7 +40,7 @@ one_def o zero = axiom_of o
 one_def o (suc zero) = nothing
 one_def o (suc (suc i)) = axiom_of (neg o)
 
--- A real definition of node n: if and then only_if. Value 0 is one sum, its only_if; so is the value above the length, its if.
+-- A real definition of node n: if and then only-if. Value 0 is one sum, its only-if; so is the value above the length, its if.
 unfoldable pub real_def : ℕ → ℕ → Direction → Definition
 real_def n zero d = stored (real n 0) 0
 real_def n (suc v) if = stored (real n (suc v)) 0
@@ -110,14 +110,14 @@ total ks [] = ks
 total [] (js ∷ jss) = total js jss
 total (k ∷ ks) (js ∷ jss) = total (add_sequence (k ∷ ks) js) jss
 
--- if of v, at s: s < v adds ¬o(s); s = v nothing; s > v (real if of v plus real only_if of s), divided by s - v + 1, saturated
+-- if of v, at s: s < v adds ¬o(s); s = v nothing; s > v (real if of v plus real only-if of s), divided by s - v + 1, saturated
 unfoldable pub if_part : (Key → ℕ → ℕ) → ℕ → Node → ℕ → ℕ → List Token
 unfolding neg output dec_lt
 if_part at_step n x v s =
     dite (dec_lt s v) (λ _. literal (neg (output x s)) ∷ [])
     (λ _. dite (dec_lt v s) (λ _. step (at_step (real n v) 0) ∷ step (at_step (real n s) 1) ∷ add ∷ divide (s - v + 1) ∷ saturate ∷ []) (λ _. []))
 
--- only_if of v, at s: s < v adds (real only_if of v plus real if of s), divided by v - s + 1, saturated; s > v adds o(s)
+-- only-if of v, at s: s < v adds (real only-if of v plus real if of s), divided by v - s + 1, saturated; s > v adds o(s)
 unfoldable pub only_if_part : (Key → ℕ → ℕ) → ℕ → Node → ℕ → ℕ → List Token
 unfolding output dec_lt
 only_if_part at_step n x v s =

@@ -26,8 +26,8 @@ unfolding side_keys
 lookup_keys t (of_side s i d) = side_keys t s i
 lookup_keys t (of_node n v d) = real n v ∷ []
 
--- What each clause of a value uses, left, right, this: C1(α, β, σ) the sides' only_if at α and β and the if of σ, C2(α, β, σ) the sides' if at α + 1 and
--- β + 1 and the only_if of σ + 1. A leaf has no clause.
+-- What each clause of a value uses, left, right, this: C1(α, β, σ) the sides' only-if at α and β and the if of σ, C2(α, β, σ) the sides' if at α + 1 and
+-- β + 1 and the only-if of σ + 1. A leaf has no clause.
 unfoldable pub used_at : List Node → ℕ → Node → Direction → ℕ → List (List Lookup)
 unfolding side_len pairs
 used_at t n (leaf a) d v = []

@@ -16,7 +16,7 @@ pub data Request : Type 0 where
 unfoldable pub node_of : Request → ℕ
 node_of (request n v d) = n
 
--- What a request command names, by its node, value and direction: 1 if, 2 only_if, 3 both, as two.
+-- What a request command names, by its node, value and direction: 1 if, 2 only-if, 3 both, as two.
 pub data Names (n v : ℕ) : ℕ → Request → Type 0 where
   names_if : Names n v 1 (request n v if)
   names_only_if : Names n v 2 (request n v only_if)
@@ -67,7 +67,7 @@ pub data Lookup : Type 0 where
   of_side : Side → ℕ → Direction → Lookup
   of_node : ℕ → ℕ → Direction → Lookup
 
--- An if at value 0, or an only_if above the length: there is no such definition (document 02, §7).
+-- An if at value 0, or an only-if above the length: there is no such definition (document 02, §7).
 pub data Undefined (t : List Node) : Lookup → Type 0 where
   if_at_zero : {s : Side} {i : ℕ} → i ≡ 0 → Undefined t (of_side s i if)
   only_if_above : {s : Side} {i : ℕ} → side_len t s < i → Undefined t (of_side s i only_if)
@@ -92,7 +92,7 @@ unfoldable pub pos_part : List Node → Side → ℕ → List ℕ
 unfolding side_len side_lit dec_le
 pos_part t s i = dite (dec_le i (side_len t s)) (λ _. side_lit t s i ∷ []) (λ _. [])
 
--- If, a + b = v: ¬L(a), ¬R(b), o(v), with the sides' only_if at a and b.
+-- If, a + b = v: ¬L(a), ¬R(b), o(v), with the sides' only-if at a and b.
 unfoldable pub if_clause : List Node → ℕ → Node → Side → Side → ℕ → ℕ → Clause
 unfolding neg_part output
 if_clause t n x l r v a = record {

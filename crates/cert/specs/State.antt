@@ -115,7 +115,7 @@ unfoldable pub serve : List Node → List Request → State → State
 unfolding batch request_dec needs node_of write_request
 serve t xs s = batch request_dec (needs t) node_of (λ (u : State). u.held) (write_request t) xs s
 
--- Direction 1 is if, 2 only_if, 3 both.
+-- Direction 1 is if, 2 only-if, 3 both.
 unfoldable pub directions : ℕ → List Direction
 directions zero = []
 directions (suc zero) = if ∷ []

@@ -112,7 +112,7 @@ fn part(s: Shown, a: usize, only_if: bool) -> Part
 
 // The last literal of a clause: the output, in an only-if clause negated.
 pub fn own_literal(x: Join, value: usize, only_if: bool) -> u32
-    requires first_bound { (x.first ≤ 2 ^ 30) × (1 ≤ value) × (value ≤ width) }
+    requires limits { (x.first ≤ 2 ^ 30) × (1 ≤ value) × (value ≤ width) }
     requires join_in { (t : List Node) × JoinIn t x value }
     ensures { (t : List Node) → JoinIn t x value → result ≡ last_literal only_if (output (node_at t x.node) value) }
 {

@@ -59,7 +59,7 @@ unfoldable pub direction : Bool → Direction
 direction true = only_if
 direction false = if
 
--- The directions held of a value, as a request names them: 1 if, 2 only_if, 3 both.
+-- The directions held of a value, as a request names them: 1 if, 2 only-if, 3 both.
 unfoldable pub held_of : List Request → ℕ → ℕ → ℕ
 unfolding flag
 held_of held n v = flag held (request n v if) + 2 * flag held (request n v only_if)

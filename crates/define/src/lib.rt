@@ -40,7 +40,7 @@ fn bare() -> Sum
 
 // The records of the real definition of a value: l is the leaf list, `first` the output of value 1.
 fn put_real(l: &[u32], log: &mut [u8], at: usize, value: usize, first: u32) -> usize
-    requires l_len_bound { (length l.now ≤ width) × (value ≤ width + 1) × (first ≤ 2 ^ 30) }
+    requires limits { (length l.now ≤ width) × (value ≤ width + 1) × (first ≤ 2 ^ 30) }
     requires node_of { (x : Node) × NodeOf l.now first x }
     ensures { (x : Node) → NodeOf l.now first x
         → Puts (buffer log.old at) (flat_map numbers (real_records x value)) (buffer log.new result) }
@@ -143,7 +143,7 @@ pub fn look_up_real(
 // The sum of value 0 of a window, by the list of its outputs.
 fn look_up_zero(outputs: &[u32], store: &mut [u32], log: &mut [u8], at: usize, slot: usize) -> usize
     requires several { Several outputs.now }
-    requires by_index { (ns : List ℕ) × (n f m : ℕ) × Represented ns (λ t s. WindowIn t outputs.now slot n f m) (memory store.old log.old at) }
+    requires represented { (ns : List ℕ) × (n f m : ℕ) × Represented ns (λ t s. WindowIn t outputs.now slot n f m) (memory store.old log.old at) }
     ensures { (ns : List ℕ) (n f m : ℕ) → Simulates ns (λ t s. WindowIn t outputs.now slot n f m)
         (λ t s. look_up t (window_zero n f m) s)
         (memory store.old log.old at) (memory store.new log.new result) }

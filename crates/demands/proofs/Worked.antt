@@ -41,7 +41,7 @@ use Rattle.demands.proofs.Windows.{reads_more, hides_nothing}
 use Rattle.demands.proofs.Leaves.{from_the_newest}
 
 -- Four leaves; node 4 joins the first two, node 5 that and the third, node 6 node 5 from offset 1 on and the fourth. Of node 6 value 1, if, and value
--- 2, only_if; of node 5 value 2, if.
+-- 2, only-if; of node 5 value 2, if.
 unfoldable pub first : List ℕ
 first =
     4 ∷ 1 ∷ 1 ∷ 0 ∷ 1 ∷ 2 ∷ 1 ∷ 5 ∷ 1 ∷ 7 ∷ 2 ∷ 0 ∷ 0 ∷ 0 ∷ 1 ∷ 0 ∷ 0 ∷ 2 ∷ 4 ∷ 0 ∷ 0 ∷ 2 ∷ 0 ∷ 0 ∷ 2 ∷ 5 ∷ 1 ∷ 0 ∷ 3 ∷ 0 ∷ 0 ∷
@@ -186,7 +186,7 @@ long_literal =
     (cons_reads here refl (nil_reads long)) (1 ∷ 0 ∷ [], Command.Leaf 0, 0, [], cons_reads leaf refl (cons_reads literal refl (nil_reads [])), refl) (λ _ m. mathlib.Core.List.Memᴰ.not-nil m) long_fifth
 
 -- Document 02, §3. Four leaves; node 4 joins the first, with its full limit, and the second; node 5 that and the third, both with full limits; node 6 the
--- last two of node 5's three, which is a window, and the fourth, with its full limit. Of node 6 value 1, if; of node 5 value 3, only_if; a close.
+-- last two of node 5's three, which is a window, and the fourth, with its full limit. Of node 6 value 1, if; of node 5 value 3, only-if; a close.
 unfoldable pub full_limits : List ℕ
 full_limits =
     4 ∷ 1 ∷ 1 ∷ 0 ∷ 1 ∷ 2 ∷ 1 ∷ 5 ∷ 1 ∷ 7 ∷ 2 ∷ 0 ∷ 0 ∷ 1 ∷ 1 ∷ 0 ∷ 0 ∷ 2 ∷ 4 ∷ 0 ∷ 2 ∷ 2 ∷ 0 ∷ 1 ∷ 2 ∷ 5 ∷ 1 ∷ 2 ∷ 3 ∷ 0 ∷ 1 ∷

@@ -321,7 +321,7 @@ pub fn push_if_part(
     literal: u32,
 ) -> usize
     requires { (s ≤ width) × (at + 40 ≤ length log.old) }
-    ensures by_index { (at_step : Key → ℕ → ℕ) (n : ℕ) (x : Node)
+    ensures puts { (at_step : Key → ℕ → ℕ) (n : ℕ) (x : Node)
         → at_step (real n v) 0 ≡ this → at_step (real n s) 1 ≡ that → output x s ≡ literal
         → Puts (buffer log.old at) (token_numbers (if_part at_step n x v s)) (buffer log.new result) }
     ensures upper_bound { result ≤ at + 40 }
@@ -346,7 +346,7 @@ pub fn push_only_if_part(
     literal: u32,
 ) -> usize
     requires { (v ≤ width) × (at + 40 ≤ length log.old) }
-    ensures by_index { (at_step : Key → ℕ → ℕ) (n : ℕ) (x : Node)
+    ensures puts { (at_step : Key → ℕ → ℕ) (n : ℕ) (x : Node)
         → at_step (real n v) 1 ≡ this → at_step (real n s) 0 ≡ that → output x s ≡ literal
         → Puts (buffer log.old at) (token_numbers (only_if_part at_step n x v s)) (buffer log.new result) }
     ensures upper_bound { result ≤ at + 40 }

@@ -77,7 +77,7 @@ fn leaf_row(literal: u32) -> [u32; sizes::ROW]
 
 // A leaf, as node n and as leaf k.
 pub fn add_leaf(nodes: &mut [u32], n: usize, k: usize, literal: u32)
-    requires n_in_bounds { row_at (n + 1) ≤ length nodes.old }
+    requires room { row_at (n + 1) ≤ length nodes.old }
     requires leafable { (t : List Node) × Leafable nodes.old t n k literal }
     ensures { (t : List Node) → Leafable nodes.old t n k literal → Table nodes.new (t ++ (leaf literal ∷ [])) }
 {
@@ -104,8 +104,8 @@ fn copy_side<'a>(
     s: Side,
     len: usize,
 )
-    requires leaf_list_len { (length leaf_list.now ≡ width) × (length output_list.now ≡ width) }
-    requires len_bound { (s.offset + len ≤ width) × (at + len ≤ length r.old) }
+    requires lists { (length leaf_list.now ≡ width) × (length output_list.now ≡ width) }
+    requires lengths { (s.offset + len ≤ width) × (at + len ≤ length r.old) }
     ensures { r.new ≡ paste r.old at
         (part (plain_or s.offset s.limit leaf_list.now output_list.now) s.offset len) len }
 {
@@ -117,7 +117,7 @@ fn copy_side<'a>(
 
 // The same, from the lists of its node.
 fn append_side(nodes: &mut [u32], r: &mut [u32], at: usize, s: Side, len: usize)
-    requires len_in_bounds { at + len ≤ length r.old }
+    requires room { at + len ≤ length r.old }
     requires sided { (t : List Node) × Sided nodes.old t s len }
     ensures nodes_unchanged { nodes.new ≡ nodes.old }
     ensures r_after { (t : List Node) → Sided nodes.old t s len → r.new ≡ paste r.old at (side_leaves t s) len }
@@ -151,7 +151,7 @@ fn join_row(
     r: Side,
     r_len: usize,
 ) -> [u32; sizes::ROW]
-    requires n_lt_most_nodes { (n < most_nodes) × (variable ≤ most_variable) × (l_len + r_len ≤ width) }
+    requires limits { (n < most_nodes) × (variable ≤ most_variable) × (l_len + r_len ≤ width) }
     requires sided { (t : List Node) × Sided nodes.old t l l_len × Sided nodes.old t r r_len }
     ensures nodes_unchanged { nodes.new ≡ nodes.old }
     ensures value { (t : List Node) → Sided nodes.old t l l_len → Sided nodes.old t r r_len
@@ -181,7 +181,7 @@ fn mark(nodes: &mut [u32], node: usize)
 // A join of two sides as they are, as node n, its outputs on the variables from `variable` up. Its
 // length.
 fn put_join(nodes: &mut [u32], n: usize, variable: u32, l: Side, r: Side) -> usize
-    requires n_in_bounds { row_at (n + 1) ≤ length nodes.old }
+    requires room { row_at (n + 1) ≤ length nodes.old }
     requires joinable { (t : List Node) × Joinable nodes.old t n variable l r }
     ensures { (t : List Node) → Joinable nodes.old t n variable l r
         → (result ≡ len (join_of t variable l r)) × Table nodes.new (t ++ (join_of t variable l r ∷ [])) }
@@ -205,7 +205,7 @@ fn plain_form(nodes: &[u32], s: Side) -> Side
 
 // The same, of the sides' plain forms.
 pub fn add_join(nodes: &mut [u32], n: usize, variable: u32, l: Side, r: Side) -> usize
-    requires n_in_bounds { row_at (n + 1) ≤ length nodes.old }
+    requires room { row_at (n + 1) ≤ length nodes.old }
     requires joinable { (t : List Node) × Joinable nodes.old t n variable l r }
     ensures { (t : List Node) → Joinable nodes.old t n variable l r
         → (result ≡ len (joined t variable l r)) × Table nodes.new (t ++ (joined t variable l r ∷ [])) }

@@ -25,7 +25,7 @@ write_both t n v s =
     write_request t (request n v only_if) (write_request t (request n v if)
     (each (ask_for t) (needs t (request n v only_if)) (each (ask_for t) (needs t (request n v if)) s)))
 
--- ---- directions as a number: 1 if, 2 only_if, 3 both. The flag is that of only_if.
+-- ---- directions as a number: 1 if, 2 only-if, 3 both. The flag is that of only-if.
 
 unfoldable pub is_held : Bool → ℕ → Bool
 is_held true h = leb 2 h

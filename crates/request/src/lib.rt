@@ -226,7 +226,7 @@ pub fn request(
     direction: u32,
 ) -> usize
     requires represented { Represented nodes.now (λ t s. RequestIn t node value) (memory store.old log.old at) }
-    requires le_direction { (1 ≤ direction) × (direction ≤ 3) }
+    requires directed { (1 ≤ direction) × (direction ≤ 3) }
     ensures { Simulates nodes.now (λ t s. RequestIn t node value) (λ t s. serve t (requests node value direction) s)
         (memory store.old log.old at) (memory store.new log.new result) }
 {

@@ -170,7 +170,7 @@ fn push_split(
     only_if: bool,
 ) -> usize
     requires both_parts { BothParts x i j × (at + clause_room ≤ length log.old) }
-    requires by_index { (ns : List ℕ) × Represented ns (λ t s. ClauseIn t x value i j only_if) (memory store.now log.old at) }
+    requires represented { (ns : List ℕ) × Represented ns (λ t s. ClauseIn t x value i j only_if) (memory store.now log.old at) }
     ensures { (ns : List ℕ) → Simulates ns (λ t s. ClauseIn t x value i j only_if)
         (λ t s. write t (clause_of t x value i j only_if) s)
         (memory store.now log.old at) (memory (clause_counted store.now) log.new result) }

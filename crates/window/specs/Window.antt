@@ -33,13 +33,13 @@ pub record WindowValue (offset len value : ℕ) : Type 0 where
 
 -- ---- the two derivations of a value
 
--- The summand at s of the only_if of v, or of its if.
+-- The summand at s of the only-if of v, or of its if.
 unfoldable pub summand : Bool → (Key → ℕ → ℕ) → ℕ → Node → ℕ → ℕ → List Token
 unfolding if_part only_if_part
 summand true at_step n x v s = only_if_part at_step n x v s
 summand false at_step n x v s = if_part at_step n x v s
 
--- The tokens of the only_if of v in a window, or of its if.
+-- The tokens of the only-if of v in a window, or of its if.
 unfoldable pub tokens_of : Bool → (Key → ℕ → ℕ) → ℕ → Node → ℕ → ℕ → ℕ → List Token
 unfolding summand total range
 tokens_of only_if at_step n x f m v = total [] (map (summand only_if at_step n x v) (range (f + 1) m))

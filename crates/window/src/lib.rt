@@ -50,9 +50,9 @@ fn push_summand(
     s: usize,
     only_if: bool,
 ) -> usize
-    requires by_index { (f m : ℕ) × Bounds row.now outputs.now f m × WindowValue f m value × WindowValue f m s }
-    requires summand_room_in_bounds { at + summand_room ≤ length log.old }
-    ensures by_index_2 { (at_step : Key → ℕ → ℕ) (n : ℕ) (x : Node) (f m : ℕ)
+    requires bounds { (f m : ℕ) × Bounds row.now outputs.now f m × WindowValue f m value × WindowValue f m s }
+    requires room { at + summand_room ≤ length log.old }
+    ensures puts { (at_step : Key → ℕ → ℕ) (n : ℕ) (x : Node) (f m : ℕ)
         → Handed row.now outputs.now at_step n x f m → WindowValue f m value → WindowValue f m s
         → Puts (buffer log.old at) (token_numbers (summand only_if at_step n x value s)) (buffer log.new result) }
     ensures upper_bound { result ≤ at + summand_room }
@@ -78,9 +78,9 @@ fn push_added(
     s: usize,
     only_if: bool,
 ) -> usize
-    requires by_index { (f m : ℕ) × Bounds row.now outputs.now f m × WindowValue f m value × WindowValue f m s }
-    requires added_room_in_bounds { at + added_room ≤ length log.old }
-    ensures by_index_2 { (at_step : Key → ℕ → ℕ) (n : ℕ) (x : Node) (f m : ℕ)
+    requires bounds { (f m : ℕ) × Bounds row.now outputs.now f m × WindowValue f m value × WindowValue f m s }
+    requires room { at + added_room ≤ length log.old }
+    ensures puts { (at_step : Key → ℕ → ℕ) (n : ℕ) (x : Node) (f m : ℕ)
         → Handed row.now outputs.now at_step n x f m → WindowValue f m value → WindowValue f m s
         → Puts (buffer log.old at) (token_numbers (added (summand only_if at_step n x value) s)) (buffer log.new result) }
     ensures upper_bound { result ≤ at + added_room }
@@ -105,8 +105,8 @@ fn push_rest(
     only_if: bool,
 ) -> usize
     requires bounds { Bounds row.now outputs.now offset len × WindowValue offset len value × WindowValue offset len first }
-    requires first_in_bounds { at + added_room * (offset + len - first) ≤ length log.old }
-    ensures by_index { (at_step : Key → ℕ → ℕ) (n : ℕ) (x : Node)
+    requires room { at + added_room * (offset + len - first) ≤ length log.old }
+    ensures puts { (at_step : Key → ℕ → ℕ) (n : ℕ) (x : Node)
         → Handed row.now outputs.now at_step n x offset len
         → Puts (buffer log.old at)
         (token_numbers (flat_map (added (summand only_if at_step n x value)) (range (first + 1) (offset + len - first))))
@@ -132,8 +132,8 @@ fn push_derivation(
     only_if: bool,
 ) -> usize
     requires bounds { Bounds row.now outputs.now offset len × WindowValue offset len value }
-    requires derivation_room_in_bounds { at + derivation_room ≤ length log.old }
-    ensures by_index { (at_step : Key → ℕ → ℕ) (n : ℕ) (x : Node)
+    requires room { at + derivation_room ≤ length log.old }
+    ensures puts { (at_step : Key → ℕ → ℕ) (n : ℕ) (x : Node)
         → Handed row.now outputs.now at_step n x offset len
         → Puts (buffer log.old at) (numbers (derivation (tokens_of only_if at_step n x offset len value))) (buffer log.new result) }
     ensures upper_bound { result ≤ at + derivation_room }

@@ -49,7 +49,7 @@ bounds-store-8193 c =
 pub own_literal-requires : goal.own_literal-requires
 own_literal-requires c =
     let r = clause_reach c.requires.1.holds c.requires.1.table.bounded c.args.store.now (store_room c.requires.1.represents) in
-    record { first_bound = (r.first, r.above, r.within); join_in = (c.requires.1.nodes, c.requires.1.holds.of) }
+    record { limits = (r.first, r.above, r.within); join_in = (c.requires.1.nodes, c.requires.1.holds.of) }
 
 pub returns : goal.returns
 unfolding clause_of definition

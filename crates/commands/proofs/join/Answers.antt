@@ -19,7 +19,7 @@ pub add_join-len-requires : goal.add_join-len-requires
 add_join-len-requires c =
     let asked = sym (c.ask_join-number.ensures c.requires.2.head c.requires.2.state.nodes c.requires.2.standing.table (sym c.requires.2.standing.nodes)) ∙ c.if-number-ne0.false in
     let j = joinable c.requires.2.standing c.args.l c.args.r asked in
-    record { n_in_bounds = omega (arith, c.requires.2.room.row); joinable = (c.requires.2.state.nodes, j) }
+    record { room = omega (arith, c.requires.2.room.row); joinable = (c.requires.2.state.nodes, j) }
 
 pub overflow_cast-after : goal.overflow_cast-after
 overflow_cast-after c =

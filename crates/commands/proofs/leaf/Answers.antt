@@ -46,7 +46,7 @@ pub add_leaf-requires : goal.add_leaf-requires
 add_leaf-requires c =
     let below : variable c.args.literal < c.requires.2.head.variable = unfold variable in omega (arith, c.requires.3, c.if-first_variable-literal.false) in
     let j = leafable c.requires.2.standing c.args.literal below (omega (arith, c.if-t-ge-MOST_LEAVES.false)) in
-    record { n_in_bounds = omega (arith, c.requires.2.room.row); leafable = (c.requires.2.state.nodes, j) }
+    record { room = omega (arith, c.requires.2.room.row); leafable = (c.requires.2.state.nodes, j) }
 
 pub returns : goal.returns
 returns c =

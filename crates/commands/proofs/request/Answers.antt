@@ -18,7 +18,7 @@ pub request-at-requires : goal.request-at-requires
 request-at-requires c =
     let asked = sym (c.ask_request-number.ensures c.requires.head c.requires.state.nodes c.requires.standing.table (sym c.requires.standing.nodes)) ∙ c.if-number-ne0.false in
     let f = fitting c.requires.standing c.args.node c.args.value c.args.direction asked in
-    record { represented = request_shown c.requires.standing c.args.node c.args.value c.args.direction asked; le_direction = (f.dir_low, f.dir_high) }
+    record { represented = request_shown c.requires.standing c.args.node c.args.value c.args.direction asked; directed = (f.dir_low, f.dir_high) }
 
 pub bounds-store-8193 : goal.bounds-store-8193
 bounds-store-8193 c =

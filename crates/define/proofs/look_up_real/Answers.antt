@@ -47,7 +47,7 @@ pub put_real-end-requires : goal.put_real-end-requires
 put_real-end-requires c =
     let b = real_bounds c.requires in
     let k = row_length c.args.nodes.now c.args.node c.args.value c.row_at-row.ensures c.number_at-len.ensures.0 in
-    record { l_len_bound = (part_short (c.row_at-row.result + list_column) c.number_at-len.result c.args.nodes.now (omega (arith, b.short, k)), b.values, rw c.row_at-row.ensures b.low); node_of = (node_at c.requires.nodes c.args.node, real_node c.args.nodes.now c.args.node c.args.value c.row_at-row.ensures c.number_at-len.ensures.0 c.requires.nodes c.requires.table c.requires.holds) }
+    record { limits = (part_short (c.row_at-row.result + list_column) c.number_at-len.result c.args.nodes.now (omega (arith, b.short, k)), b.values, rw c.row_at-row.ensures b.low); node_of = (node_at c.requires.nodes c.args.node, real_node c.args.nodes.now c.args.node c.args.value c.row_at-row.ensures c.number_at-len.ensures.0 c.requires.nodes c.requires.table c.requires.holds) }
 
 pub store_key-requires : goal.store_key-requires
 store_key-requires c =

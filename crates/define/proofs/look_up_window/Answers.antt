@@ -56,7 +56,7 @@ slice_bounds-look_up_zero-end c =
 pub look_up_zero-a-requires : goal.look_up_zero-a-requires
 look_up_zero-a-requires c =
     let b = window_bounds c.before.requires.table.bounded c.before.requires.represents c.before.requires.holds in
-    record { several = window_several c.before.args.s c.outputs-outputs.ensures b.several b.values; by_index = (c.before.args.nodes.now, c.before.args.s.side.node, c.before.args.s.side.offset, c.before.args.s.len, represented_to (λ t u l w. window_in c.before.args.s c.outputs-outputs.ensures l.bounded w) c.before.requires) }
+    record { several = window_several c.before.args.s c.outputs-outputs.ensures b.several b.values; represented = (c.before.args.nodes.now, c.before.args.s.side.node, c.before.args.s.side.offset, c.before.args.s.len, represented_to (λ t u l w. window_in c.before.args.s c.outputs-outputs.ensures l.bounded w) c.before.requires) }
 
 pub look_up_reals-b-requires : goal.look_up_reals-b-requires
 look_up_reals-b-requires c =

@@ -16,12 +16,12 @@ returns-then-log-at c =
 
 pub offset_bounds-store-slot : goal.offset_bounds-store-slot
 offset_bounds-store-slot c =
-    let b = zero_bounds c.requires.by_index.4 in
+    let b = zero_bounds c.requires.represented.4 in
     search rules
 
 pub bounds-store-slot : goal.bounds-store-slot
 bounds-store-slot c =
-    let b = zero_bounds c.requires.by_index.4 in
+    let b = zero_bounds c.requires.represented.4 in
     search rules
 
 pub returns-then-store-slot-ne0 : goal.returns-then-store-slot-ne0
@@ -32,7 +32,7 @@ returns-then-store-slot-ne0 c =
 
 pub store_key-requires : goal.store_key-requires
 store_key-requires c =
-    let b = zero_bounds c.requires.by_index.4 in
+    let b = zero_bounds c.requires.represented.4 in
     (b.above, b.inside, b.small, omega arith)
 
 pub returns : goal.returns

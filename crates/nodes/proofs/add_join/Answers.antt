@@ -5,7 +5,7 @@ use Rattle.nodes.proofs.add_join.Goals as goal
 
 pub put_join-requires : goal.put_join-requires
 put_join-requires c =
-    record { n_in_bounds = c.requires.n_in_bounds; joinable = (c.requires.joinable.0, rw (c.plain_form-left.ensures c.requires.joinable.0 c.requires.joinable.1.table c.requires.joinable.1.left, c.plain_form-right.ensures c.requires.joinable.0 c.requires.joinable.1.table c.requires.joinable.1.right) (plain_joinable c.requires.joinable.1)) }
+    record { room = c.requires.room; joinable = (c.requires.joinable.0, rw (c.plain_form-left.ensures c.requires.joinable.0 c.requires.joinable.1.table c.requires.joinable.1.left, c.plain_form-right.ensures c.requires.joinable.0 c.requires.joinable.1.table c.requires.joinable.1.right) (plain_joinable c.requires.joinable.1)) }
 
 pub returns : goal.returns
 unfolding joined

@@ -9,4 +9,4 @@ bounds-nodes-k-2 c = simp length-set (omega arith)
 
 pub returns : goal.returns
 returns c =
-    λ t j. rw (c.put_row.ensures, c.leaf_row-r.ensures) (table_leaf j c.requires.n_in_bounds _ _ _ _ (omega arith) (omega arith) (omega arith) (omega arith))
+    λ t j. rw (c.put_row.ensures, c.leaf_row-r.ensures) (table_leaf j c.requires.room _ _ _ _ (omega arith) (omega arith) (omega arith) (omega arith))

@@ -10,7 +10,7 @@ outputs-outputs-requires c =
 pub copy_side-requires : goal.copy_side-requires
 copy_side-requires c =
     let ready = lists_ready c.requires.sided.1 c.row_at-node.ensures c.number_at.ensures.0 c.outputs-outputs.ensures in
-    record { leaf_list_len = (ready.0, ready.1); len_bound = (ready.2, c.requires.len_in_bounds) }
+    record { lists = (ready.0, ready.1); lengths = (ready.2, c.requires.room) }
 
 pub returns : goal.returns
 returns c =

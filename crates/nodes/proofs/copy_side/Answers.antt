@@ -7,14 +7,14 @@ use Rattle.nodes.proofs.copy_side.Goals as goal
 
 pub literals-l-requires : goal.literals-l-requires
 literals-l-requires c =
-    omega (arith, length_cond c.is_plain.result c.args.leaf_list.now c.args.output_list.now c.requires.leaf_list_len.0 c.requires.leaf_list_len.1)
+    omega (arith, length_cond c.is_plain.result c.args.leaf_list.now c.args.output_list.now c.requires.lists.0 c.requires.lists.1)
 
 pub loop-i-init : goal.loop-i-init
 loop-i-init c = (
   search rules,
   refl,
   part_length c.args.leaf_list.now c.args.output_list.now c.literals-l.result.now c.args.s.offset c.args.s.limit c.args.len c.is_plain.result
-      c.is_plain.ensures c.literals-l.ensures c.requires.leaf_list_len.0 c.requires.leaf_list_len.1 c.requires.len_bound.0,
+      c.is_plain.ensures c.literals-l.ensures c.requires.lists.0 c.requires.lists.1 c.requires.lengths.0,
   paste-zero c.args.r.now c.args.at c.literals-l.result.now,
 )
 

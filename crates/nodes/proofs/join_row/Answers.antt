@@ -9,7 +9,7 @@ use Rattle.nodes.proofs.join_row.Goals as goal
 
 pub append_side-requires-2 : goal.append_side-requires-2
 append_side-requires-2 c =
-    record { len_in_bounds = omega arith; sided = (c.requires.sided.0, rw c.append_side.ensures.nodes_unchanged c.requires.sided.2) }
+    record { room = omega arith; sided = (c.requires.sided.0, rw c.append_side.ensures.nodes_unchanged c.requires.sided.2) }
 
 pub put_side-requires : goal.put_side-requires
 put_side-requires c =

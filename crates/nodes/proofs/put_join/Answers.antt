@@ -7,7 +7,7 @@ pub join_row-row-requires : goal.join_row-row-requires
 join_row-row-requires c =
     let e = c.side_len-l_len.ensures c.requires.joinable.0 c.requires.joinable.1.table c.requires.joinable.1.left in
     let f = c.side_len-r_len.ensures c.requires.joinable.0 c.requires.joinable.1.table c.requires.joinable.1.right in
-    record { n_lt_most_nodes = (c.requires.joinable.1.room, c.requires.joinable.1.low, both_fit c.requires.joinable.1 e f); sided = (c.requires.joinable.0, left_side c.requires.joinable.1 e f, right_side c.requires.joinable.1 e f) }
+    record { limits = (c.requires.joinable.1.room, c.requires.joinable.1.low, both_fit c.requires.joinable.1 e f); sided = (c.requires.joinable.0, left_side c.requires.joinable.1 e f, right_side c.requires.joinable.1 e f) }
 
 pub overflow_add-result : goal.overflow_add-result
 overflow_add-result c =
@@ -25,5 +25,5 @@ returns c =
         c.put_row.ensures,
         c.join_row-row.ensures.nodes_unchanged,
         c.join_row-row.ensures.value t (left_side j e f) (right_side j e f),
-      ) (table_join j c.requires.n_in_bounds),
+      ) (table_join j c.requires.room),
     )

@@ -10,12 +10,12 @@ use Rattle.record.proofs.copy_out.Goals as goal
 
 pub returns-then-log-at : goal.returns-then-log-at
 returns-then-log-at c =
-    record { onward = stays; result_after = full_before c.args.log.now c.args.log.now c.args.at c.args.at _ c.if-log-at.true c.if-log-at.true }
+    record { onward = stays; appends = full_before c.args.log.now c.args.log.now c.args.at c.args.at _ c.if-log-at.true c.if-log-at.true }
 
 pub returns-then-log-at-2 : goal.returns-then-log-at-2
 returns-then-log-at-2 c =
     let s : length (take c.args.n c.args.apart.now) ≡ c.args.n = length-take-le c.args.n c.args.apart.now c.requires.0 in
-    record { onward = record { size = refl; on = omega arith; front = λ k h. refl }; result_after = no_room c.args.log.now c.args.log.now c.args.at _ _ (omega arith) (omega (arith, s)) (omega arith) }
+    record { onward = record { size = refl; on = omega arith; front = λ k h. refl }; appends = no_room c.args.log.now c.args.log.now c.args.at _ _ (omega arith) (omega (arith, s)) (omega arith) }
 
 pub loop-k-init : goal.loop-k-init
 loop-k-init c =
@@ -47,4 +47,4 @@ returns c =
     let k : c.loop-k.k ≡ c.args.n = omega arith in
     let t : length (take c.args.n c.args.apart.now) ≡ c.args.n = length-take-le c.args.n c.args.apart.now c.loop-k.invariant.4 in
     let is : take (c.args.at + c.args.n) c.loop-k.log ≡ take c.args.at c.args.log.now ++ take c.args.n c.args.apart.now = rw k at c.loop-k.invariant.2 in
-    record { onward = record { size = c.loop-k.invariant.1; on = omega arith; front = λ j h. copied_front c.args.log.now c.loop-k.log (take c.args.n c.args.apart.now) c.args.at c.args.n j h (omega arith) is }; result_after = appended c.args.log.now c.loop-k.log c.args.at _ (take c.args.n c.args.apart.now) (omega (arith, t)) (omega (arith, t)) c.loop-k.invariant.1 is }
+    record { onward = record { size = c.loop-k.invariant.1; on = omega arith; front = λ j h. copied_front c.args.log.now c.loop-k.log (take c.args.n c.args.apart.now) c.args.at c.args.n j h (omega arith) is }; appends = appended c.args.log.now c.loop-k.log c.args.at _ (take c.args.n c.args.apart.now) (omega (arith, t)) (omega (arith, t)) c.loop-k.invariant.1 is }

@@ -5,4 +5,4 @@ use Rattle.record.proofs.put.Goals as goal
 
 pub returns : goal.returns
 returns c =
-    from_apart c.push-n.ensures.puts (omega (arith, c.push-n.ensures.upper_bound)) (c.copy_out.ensures.onward, c.copy_out.ensures.result_after)
+    from_apart c.push-n.ensures.puts (omega (arith, c.push-n.ensures.upper_bound)) (c.copy_out.ensures.onward, c.copy_out.ensures.appends)

@@ -9,7 +9,7 @@ use Rattle.request.proofs.request.Goals as goal
 
 pub returns-then-direction-ne3 : goal.returns-then-direction-ne3
 returns-then-direction-ne3 c =
-    one_done c.args.direction _ c.requires.le_direction.0 c.requires.le_direction.1 c.if-direction-ne3.true refl c.node_request.ensures
+    one_done c.args.direction _ c.requires.directed.0 c.requires.directed.1 c.if-direction-ne3.true refl c.node_request.ensures
 
 pub returns-then-log-at : goal.returns-then-log-at
 returns-then-log-at c = three_done _ c.if-direction-ne3.false (sims_full (serve_grows _) c.if-log-at.true)

@@ -15,64 +15,64 @@ use Rattle.splits.proofs.push_split.Goals as goal
 
 pub overflow_add-this : goal.overflow_add-this
 overflow_add-this c =
-    let r = clause_reach c.requires.by_index.1.holds c.requires.by_index.1.table.bounded c.args.store.now (store_room c.requires.by_index.1.represents) in
+    let r = clause_reach c.requires.represented.1.holds c.requires.represented.1.table.bounded c.args.store.now (store_room c.requires.represented.1.represents) in
     omega (arith, c.store_at.ensures, r.row, r.within)
 
 pub offset_bounds-store-store_at : goal.offset_bounds-store-store_at
 offset_bounds-store-store_at c =
-    let r = clause_reach c.requires.by_index.1.holds c.requires.by_index.1.table.bounded c.args.store.now (store_room c.requires.by_index.1.represents) in
+    let r = clause_reach c.requires.represented.1.holds c.requires.represented.1.table.bounded c.args.store.now (store_room c.requires.represented.1.represents) in
     omega (arith, c.store_at.ensures, r.row, r.within)
 
 pub bounds-store-store_at : goal.bounds-store-store_at
 bounds-store-store_at c =
-    let r = clause_reach c.requires.by_index.1.holds c.requires.by_index.1.table.bounded c.args.store.now (store_room c.requires.by_index.1.represents) in
+    let r = clause_reach c.requires.represented.1.holds c.requires.represented.1.table.bounded c.args.store.now (store_room c.requires.represented.1.represents) in
     omega (arith, c.store_at.ensures, r.row, r.within)
 
 pub first_of-left-requires : goal.first_of-left-requires
 first_of-left-requires c =
-    let r = clause_reach c.requires.by_index.1.holds c.requires.by_index.1.table.bounded c.args.store.now (store_room c.requires.by_index.1.represents) in
+    let r = clause_reach c.requires.represented.1.holds c.requires.represented.1.table.bounded c.args.store.now (store_room c.requires.represented.1.represents) in
     r.left
 
 pub first_of-right-requires : goal.first_of-right-requires
 first_of-right-requires c =
-    let r = clause_reach c.requires.by_index.1.holds c.requires.by_index.1.table.bounded c.args.store.now (store_room c.requires.by_index.1.represents) in
+    let r = clause_reach c.requires.represented.1.holds c.requires.represented.1.table.bounded c.args.store.now (store_room c.requires.represented.1.represents) in
     r.right
 
 pub bounds-store-8193 : goal.bounds-store-8193
 bounds-store-8193 c =
-    omega (arith, store_room c.requires.by_index.1.represents)
+    omega (arith, store_room c.requires.represented.1.represents)
 
 pub later_step-requires : goal.later_step-requires
 later_step-requires c =
-    let low = firsts_of (exact_of (omega (arith, c.requires.both_parts.1)) c.requires.by_index.1.represents) in
-    rw c.store_at.ensures (first_low low c.args.x.node c.args.value (real_named c.requires.by_index.1.table.bounded (this_in c.requires.by_index.1.holds c.requires.by_index.1.table.bounded)).used)
+    let low = firsts_of (exact_of (omega (arith, c.requires.both_parts.1)) c.requires.represented.1.represents) in
+    rw c.store_at.ensures (first_low low c.args.x.node c.args.value (real_named c.requires.represented.1.table.bounded (this_in c.requires.represented.1.holds c.requires.represented.1.table.bounded)).used)
 
 pub later_step-requires-2 : goal.later_step-requires-2
 later_step-requires-2 c =
-    let low = firsts_of (exact_of (omega (arith, c.requires.both_parts.1)) c.requires.by_index.1.represents) in
+    let low = firsts_of (exact_of (omega (arith, c.requires.both_parts.1)) c.requires.represented.1.represents) in
     let long = (long_sides c.args.x c.requires.both_parts.0.long).0 in
-    rw c.first_of-left.ensures (first_low low _ c.args.i (long_used c.requires.by_index.1.table.bounded (left_in c.requires.by_index.1.holds) long))
+    rw c.first_of-left.ensures (first_low low _ c.args.i (long_used c.requires.represented.1.table.bounded (left_in c.requires.represented.1.holds) long))
 
 pub later_step-requires-3 : goal.later_step-requires-3
 later_step-requires-3 c =
-    let low = firsts_of (exact_of (omega (arith, c.requires.both_parts.1)) c.requires.by_index.1.represents) in
+    let low = firsts_of (exact_of (omega (arith, c.requires.both_parts.1)) c.requires.represented.1.represents) in
     let long = (long_sides c.args.x c.requires.both_parts.0.long).1 in
-    rw c.first_of-right.ensures (first_low low _ c.args.j (long_used c.requires.by_index.1.table.bounded (right_in c.requires.by_index.1.holds) long))
+    rw c.first_of-right.ensures (first_low low _ c.args.j (long_used c.requires.represented.1.table.bounded (right_in c.requires.represented.1.holds) long))
 
 pub part_literal-requires : goal.part_literal-requires
 part_literal-requires c =
-    let r = clause_reach c.requires.by_index.1.holds c.requires.by_index.1.table.bounded c.args.store.now (store_room c.requires.by_index.1.represents) in
+    let r = clause_reach c.requires.represented.1.holds c.requires.represented.1.table.bounded c.args.store.now (store_room c.requires.represented.1.represents) in
     (r.left.reach, c.requires.both_parts.0.left_above, c.requires.both_parts.0.left_within)
 
 pub part_literal-requires-2 : goal.part_literal-requires-2
 part_literal-requires-2 c =
-    let r = clause_reach c.requires.by_index.1.holds c.requires.by_index.1.table.bounded c.args.store.now (store_room c.requires.by_index.1.represents) in
+    let r = clause_reach c.requires.represented.1.holds c.requires.represented.1.table.bounded c.args.store.now (store_room c.requires.represented.1.represents) in
     (r.right.reach, c.requires.both_parts.0.right_above, c.requires.both_parts.0.right_within)
 
 pub own_literal-requires : goal.own_literal-requires
 own_literal-requires c =
-    let r = clause_reach c.requires.by_index.1.holds c.requires.by_index.1.table.bounded c.args.store.now (store_room c.requires.by_index.1.represents) in
-    record { first_bound = (r.first, r.above, r.within); join_in = (c.requires.by_index.1.nodes, c.requires.by_index.1.holds.of) }
+    let r = clause_reach c.requires.represented.1.holds c.requires.represented.1.table.bounded c.args.store.now (store_room c.requires.represented.1.represents) in
+    record { limits = (r.first, r.above, r.within); join_in = (c.requires.represented.1.nodes, c.requires.represented.1.holds.of) }
 
 pub returns : goal.returns
 unfolding clause_of definition

@@ -9,7 +9,7 @@ use Rattle.totlog.proofs.play.Goals as goal
 
 pub loop-n-init : goal.loop-n-init
 loop-n-init c = (
-  c.requires.script_len_bound.1,
+  c.requires.limits.1,
   omega arith,
   refl,
   refl,
@@ -23,7 +23,7 @@ returns-in-End c =
     finished c.loop-n.invariant.0 (c.loop-n.invariant.5 h p st) (sym c.next-reading.ensures ∙ c.in-End.is) _ refl refl refl
 
 pub overflow_add-result : goal.overflow_add-result
-overflow_add-result c = omega (arith, c.loop-n.invariant.0, c.loop-n.invariant.1, c.requires.script_len_bound.0)
+overflow_add-result c = omega (arith, c.loop-n.invariant.0, c.loop-n.invariant.1, c.requires.limits.0)
 
 pub returns-in-Refuse : goal.returns-in-Refuse
 returns-in-Refuse c =
@@ -34,10 +34,10 @@ pub command-e-requires : goal.command-e-requires
 command-e-requires c =
     let g = c.loop-n.invariant.5 c.requires.begun.head c.requires.begun.capacity c.requires.begun.standing in
     let reads = sym c.next-reading.ensures ∙ c.in-Command.is in
-    (record { head = c.requires.begun.head; capacity = c.requires.begun.capacity; state = g.state; standing = g.standing; room = room_left c.loop-n.invariant.0 g reads c.requires.script_len_bound.2 c.loop-n.invariant.2 c.loop-n.invariant.3 }, unfold start in c.requires.begun.standing.variable)
+    (record { head = c.requires.begun.head; capacity = c.requires.begun.capacity; state = g.state; standing = g.standing; room = room_left c.loop-n.invariant.0 g reads c.requires.limits.2 c.loop-n.invariant.2 c.loop-n.invariant.3 }, unfold start in c.requires.begun.standing.variable)
 
 pub overflow_add-result-then-e-ne0 : goal.overflow_add-result-then-e-ne0
-overflow_add-result-then-e-ne0 c = omega (arith, c.loop-n.invariant.0, c.loop-n.invariant.1, c.requires.script_len_bound.0)
+overflow_add-result-then-e-ne0 c = omega (arith, c.loop-n.invariant.0, c.loop-n.invariant.1, c.requires.limits.0)
 
 pub shape_of-nodes-then-e-ne0 : goal.shape_of-nodes-then-e-ne0
 shape_of-nodes-then-e-ne0 c = c.command-e.auto.nodes ∙ c.loop-n.invariant.2
@@ -56,7 +56,7 @@ returns-then-e-ne0 c =
     stops c.loop-n.invariant.0 g (sym c.next-reading.ensures ∙ c.in-Command.is) played c.if-e-ne0.true _ refl refl refl
 
 pub overflow_add-place : goal.overflow_add-place
-overflow_add-place c = omega (arith, c.loop-n.invariant.0, c.loop-n.invariant.1, c.requires.script_len_bound.0)
+overflow_add-place c = omega (arith, c.loop-n.invariant.0, c.loop-n.invariant.1, c.requires.limits.0)
 
 pub loop-n-smaller : goal.loop-n-smaller
 loop-n-smaller c =

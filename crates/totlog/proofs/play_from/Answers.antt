@@ -13,7 +13,7 @@ bounds-store-8193 c =
 
 pub play-r-requires : goal.play-r-requires
 play-r-requires c =
-    record { script_len_bound = (c.requires.lent.short, c.requires.lent.inside, rows_begun c.requires.lent c.requires.rows.0 c.requires.rows.1 _); begun = record { head = (record { variable = c.args.variable; step = c.args.step }); capacity = _; standing = standing_begin c.requires.lent c.requires.rows.0 c.requires.rows.1 } }
+    record { limits = (c.requires.lent.short, c.requires.lent.inside, rows_begun c.requires.lent c.requires.rows.0 c.requires.rows.1 _); begun = record { head = (record { variable = c.args.variable; step = c.args.step }); capacity = _; standing = standing_begin c.requires.lent c.requires.rows.0 c.requires.rows.1 } }
 
 pub answer_to-requires : goal.answer_to-requires
 answer_to-requires c =

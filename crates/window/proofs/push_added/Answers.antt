@@ -10,17 +10,17 @@ pub returns-then-s-value : goal.returns-then-s-value
 unfolding add_sequence
 returns-then-s-value c =
     record {
-      by_index_2 = (λ at_step n x f m handed own other.
+      puts = (λ at_step n x f m handed own other.
           let none = summand_own c.args.only_if at_step n x c.args.value c.args.s c.if-s-value.true in
-          rw none (rw none at (c.push_summand-end.ensures.by_index_2 at_step n x f m handed own other)));
+          rw none (rw none at (c.push_summand-end.ensures.puts at_step n x f m handed own other)));
       upper_bound = omega (arith, c.push_summand-end.ensures.upper_bound);
     }
 
 pub returns : goal.returns
 returns c =
     record {
-      by_index_2 = (λ at_step n x f m handed own other.
+      puts = (λ at_step n x f m handed own other.
           rw (added_some _ (summand_other c.args.only_if at_step n x c.args.value c.args.s c.if-s-value.false))
-          (after (c.push_summand-end.ensures.by_index_2 at_step n x f m handed own other) c.push.ensures.puts));
+          (after (c.push_summand-end.ensures.puts at_step n x f m handed own other) c.push.ensures.puts));
       upper_bound = omega (arith, c.push_summand-end.ensures.upper_bound, c.push.ensures.upper_bound);
     }

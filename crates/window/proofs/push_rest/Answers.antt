@@ -18,7 +18,7 @@ loop-s-init c =
 
 pub push_added-end-requires : goal.push_added-end-requires
 push_added-end-requires c =
-    record { by_index = (c.args.offset, c.args.len, c.requires.bounds.0, c.requires.bounds.1, search rules); added_room_in_bounds = search rules }
+    record { bounds = (c.args.offset, c.args.len, c.requires.bounds.0, c.requires.bounds.1, search rules); room = search rules }
 
 pub loop-s-preserved : goal.loop-s-preserved
 loop-s-preserved c =
@@ -29,10 +29,10 @@ loop-s-preserved c =
       omega (arith, c.push_added-end.ensures.upper_bound),
       λ at_step n x handed.
           rw (range_more (added (summand c.args.only_if at_step n x c.args.value)) (c.args.first + 1) c.loop-s.s from, tokens_append)
-          (after (c.loop-s.invariant.4 at_step n x handed) (c.push_added-end.ensures.by_index_2 at_step n x c.args.offset c.args.len handed c.requires.bounds.1 (search rules))),
+          (after (c.loop-s.invariant.4 at_step n x handed) (c.push_added-end.ensures.puts at_step n x c.args.offset c.args.len handed c.requires.bounds.1 (search rules))),
     )
 
 pub returns : goal.returns
 returns c =
     let all : c.loop-s.s - (c.args.first + 1) ≡ c.args.offset + c.args.len - c.args.first = omega arith in
-    record { by_index = (λ at_step n x handed. rw all at (c.loop-s.invariant.4 at_step n x handed)); upper_bound = omega arith }
+    record { puts = (λ at_step n x handed. rw all at (c.loop-s.invariant.4 at_step n x handed)); upper_bound = omega arith }

@@ -7,9 +7,9 @@ pub returns-then-only_if : goal.returns-then-only_if
 unfolding summand
 returns-then-only_if c =
     record {
-      by_index_2 = (λ at_step n x f m handed own other.
+      puts = (λ at_step n x f m handed own other.
           rw c.if-only_if.true
-          (c.push_only_if_part.ensures.by_index at_step n x
+          (c.push_only_if_part.ensures.puts at_step n x
           (handed.only_if_step c.args.value own.above own.below ∙ sym c.next_step-this.ensures)
           (handed.if_step c.args.s other.above other.below)
           (handed.literal c.args.s other.above other.below)));
@@ -20,9 +20,9 @@ pub returns : goal.returns
 unfolding summand
 returns c =
     record {
-      by_index_2 = (λ at_step n x f m handed own other.
+      puts = (λ at_step n x f m handed own other.
           rw c.if-only_if.false
-          (c.push_if_part.ensures.by_index at_step n x
+          (c.push_if_part.ensures.puts at_step n x
           (handed.if_step c.args.value own.above own.below)
           (handed.only_if_step c.args.s other.above other.below ∙ sym c.next_step-that.ensures)
           (handed.literal c.args.s other.above other.below)));

@@ -5,4 +5,4 @@ use borrow.Author.Tests.{leb-true}
 use Rattle.window.proofs.put_derivation.Goals as goal
 
 pub push_derivation-requires : goal.push_derivation-requires
-push_derivation-requires c = record { bounds = search rules; derivation_room_in_bounds = leb-true _ _ (sym c.fits.ensures ∙ c.if-fits.true) }
+push_derivation-requires c = record { bounds = search rules; room = leb-true _ _ (sym c.fits.ensures ∙ c.if-fits.true) }

@@ -5,4 +5,4 @@ use Rattle.window.proofs.put_last_derivation.Goals as goal
 
 pub returns : goal.returns
 returns c = λ at_step n x handed.
-    from_apart (c.push_derivation-n.ensures.by_index at_step n x handed) (omega (arith, c.push_derivation-n.ensures.upper_bound)) (c.copy_out.ensures.onward, c.copy_out.ensures.result_after)
+    from_apart (c.push_derivation-n.ensures.puts at_step n x handed) (omega (arith, c.push_derivation-n.ensures.upper_bound)) (c.copy_out.ensures.onward, c.copy_out.ensures.appends)
