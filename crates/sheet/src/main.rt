@@ -21,8 +21,8 @@ fn read_on<R: Read>(input: &mut R) -> io::Result<()>
 // The whole sheet at the start of `text`, and how many bytes it has.
 fn whole(script: &[u8], text: &mut [u8]) -> usize
     requires { most_sheet ≤ length text.old }
-    ensures prefix_len { (result ≤ length text.new) × (result ≡ length (take result text.new)) }
-    ensures text_after { take result text.new ≡ sheet script.now }
+    ensures counts { (result ≤ length text.new) × (result ≡ length (take result text.new)) }
+    ensures sheet { take result text.new ≡ sheet script.now }
 {
     lines::sheet(script, text)
 }
