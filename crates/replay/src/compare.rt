@@ -7,6 +7,7 @@ ghost use Rattle.replay.specs.Compare.{Met};
 
 use crate::report;
 use answer::Answer;
+use std::io;
 
 fn wide(x: u8) -> u32
     ensures value { result ≡ x }
@@ -85,23 +86,8 @@ fn agreed(log: &[u8], recorded: &[u8]) -> usize
     i
 }
 
-// A case that is not met: both answers, and the first byte of the log that is not as recorded.
-fn show(log: &[u8], recorded: &[u8], n: usize, got: Answer, answer: Answer, case: u32) {
-    report::answer(case, got, answer);
-    if n < log.len() {
-        report::log(n, byte_or_zero(log, n), byte_or_zero(recorded, n));
-    }
-}
-
 // Plays a script on a log. Are the six numbers and every byte of the log as recorded?
-pub fn meets(
-    script: &[u8],
-    log: &mut [u8],
-    answer: Answer,
-    recorded: &[u8],
-    case: u32,
-    is_shown: bool,
-) -> bool
+pub fn meets(script: &[u8], log: &mut [u8], answer: Answer, recorded: &[u8]) -> bool
     ensures met { (result ≡ true → Met script.now (length log.old) answer recorded.now)
         × (result ≡ false → Met script.now (length log.old) answer recorded.now → ⊥) }
     ensures log_after { log.new ≡ (played script.now (length log.old)).log }
@@ -113,8 +99,23 @@ pub fn meets(
             return true;
         }
     }
-    if is_shown {
-        show(log, recorded, n, got, answer, case);
-    }
     false
+}
+
+// A case that is not met, played once more: both answers, and the first byte of the log that is not as recorded.
+pub fn show(
+    rt: &impl Print,
+    script: &[u8],
+    log: &mut [u8],
+    answer: Answer,
+    recorded: &[u8],
+    case: u32,
+) -> io::Result<()> {
+    let got = answer_to(script, log);
+    let n = agreed(log, recorded);
+    report::answer(rt, case, got, answer)?;
+    if n < log.len() {
+        report::log(rt, n, byte_or_zero(log, n), byte_or_zero(recorded, n))?;
+    }
+    Ok(())
 }

@@ -1,55 +1,65 @@
-// Standard input, read piece by piece.
-use answer::Answer;
-use libc::STDIN_FILENO;
-use number::Reading;
+// The recorded answers, read piece by piece.
+ghost use Rattle.std.specs.Prelude.{IfOk, IsTrue};
+ghost use Rattle.std.specs.Io.KnownBytes.{Consumes};
 
-#[derive(Clone, Copy)]
+use answer::Answer;
+use number::Reading;
+use std::io;
+use std::io::{ErrorKind, Read};
+
+#[derive(Drop)]
 pub enum AnswerReading {
     Answer(Answer),
     Bad,
 }
 
-#[derive(Clone, Copy)]
+#[derive(Drop)]
 enum ByteReading {
     Byte(u8),
     End,
 }
 
 // Fills a slice. Were there as many bytes?
-pub fn fill(to: &mut [u8]) -> bool {
-    io::read_full(STDIN_FILENO, to) == to.len()
-}
-
-fn next_byte() -> ByteReading {
-    let mut one = [0u8; 1];
-    if fill(&mut one) {
-        return ByteReading::Byte(one[0]);
+pub fn fill<R: Read>(input: &mut R, to: &mut [u8]) -> io::Result<bool>
+    ensures { IfOk result (λ is_full. IsTrue is_full → Consumes (R.remaining input.old) (R.remaining input.new) to.new) }
+{
+    match input.read_exact(to) {
+        Ok(()) => Ok(true),
+        Err(e) if e.kind() == ErrorKind::UnexpectedEof => Ok(false),
+        Err(e) => Err(e),
     }
-    ByteReading::End
 }
 
-pub fn is_ended() -> bool {
-    if let ByteReading::End = next_byte() {
-        true
+fn next_byte<R: Read>(input: &mut R) -> io::Result<ByteReading> {
+    let mut one = [0u8; 1];
+    if fill(input, &mut one)? {
+        return Ok(ByteReading::Byte(one[0]));
+    }
+    Ok(ByteReading::End)
+}
+
+pub fn is_ended<R: Read>(input: &mut R) -> io::Result<bool> {
+    if let ByteReading::End = next_byte(input)? {
+        Ok(true)
     } else {
-        false
+        Ok(false)
     }
 }
 
 // The bytes of a number, up to the first below 128 and no more than a number may have. Does the input hold them?
-fn fill_groups(to: &mut [u8; number::GROUPS]) -> bool {
+fn fill_groups<R: Read>(input: &mut R, to: &mut [u8; number::GROUPS]) -> io::Result<bool> {
     let mut n = 0;
     while n < number::GROUPS {
-        let ByteReading::Byte(b) = next_byte() else {
-            return false;
+        let ByteReading::Byte(b) = next_byte(input)? else {
+            return Ok(false);
         };
         to[n] = b;
         if b < 128 {
-            return true;
+            return Ok(true);
         }
         n += 1;
     }
-    true
+    Ok(true)
 }
 
 // The number at the front.
@@ -57,40 +67,40 @@ fn front(b: &[u8; number::GROUPS]) -> Reading {
     number::read(b, 0)
 }
 
-pub fn next_number() -> Reading {
+pub fn next_number<R: Read>(input: &mut R) -> io::Result<Reading> {
     let mut b = [0u8; number::GROUPS];
-    if fill_groups(&mut b) {
-        return front(&b);
+    if fill_groups(input, &mut b)? {
+        return Ok(front(&b));
     }
-    Reading::Bad
+    Ok(Reading::Bad)
 }
 
 // The next six numbers.
-pub fn next_answer() -> AnswerReading {
-    let Reading::Number(number, _) = next_number() else {
-        return AnswerReading::Bad;
+pub fn next_answer<R: Read>(input: &mut R) -> io::Result<AnswerReading> {
+    let Reading::Number(number, _) = next_number(input)? else {
+        return Ok(AnswerReading::Bad);
     };
-    let Reading::Number(place, _) = next_number() else {
-        return AnswerReading::Bad;
+    let Reading::Number(place, _) = next_number(input)? else {
+        return Ok(AnswerReading::Bad);
     };
-    let Reading::Number(length, _) = next_number() else {
-        return AnswerReading::Bad;
+    let Reading::Number(length, _) = next_number(input)? else {
+        return Ok(AnswerReading::Bad);
     };
-    let Reading::Number(steps, _) = next_number() else {
-        return AnswerReading::Bad;
+    let Reading::Number(steps, _) = next_number(input)? else {
+        return Ok(AnswerReading::Bad);
     };
-    let Reading::Number(clauses, _) = next_number() else {
-        return AnswerReading::Bad;
+    let Reading::Number(clauses, _) = next_number(input)? else {
+        return Ok(AnswerReading::Bad);
     };
-    let Reading::Number(nodes, _) = next_number() else {
-        return AnswerReading::Bad;
+    let Reading::Number(nodes, _) = next_number(input)? else {
+        return Ok(AnswerReading::Bad);
     };
-    AnswerReading::Answer(Answer {
-        number: number,
-        place: place,
-        length: length,
-        steps: steps,
-        clauses: clauses,
-        nodes: nodes,
-    })
+    Ok(AnswerReading::Answer(Answer {
+        number,
+        place,
+        length,
+        steps,
+        clauses,
+        nodes,
+    }))
 }

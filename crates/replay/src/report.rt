@@ -2,70 +2,58 @@
 ghost use Rattle.std.specs.Prelude.{◌≤◌};
 
 use answer::Answer;
-use libc::STDOUT_FILENO;
+use std::io;
 
-fn text(s: &[u8]) {
-    io::write_all(STDOUT_FILENO, s);
+fn text(rt: &impl Print, s: &str) -> io::Result<()> {
+    print!(rt; "{s}")
 }
 
-fn number(n: u32) {
-    io::print_decimal(STDOUT_FILENO, n as u64);
+fn number(rt: &impl Print, n: u32) -> io::Result<()> {
+    print!(rt; "{n}")
 }
 
-fn spaced(n: u32) {
-    text(b" ");
-    number(n);
+fn spaced(rt: &impl Print, n: u32) -> io::Result<()> {
+    text(rt, " ")?;
+    number(rt, n)
 }
 
-fn numbers(a: Answer) {
-    spaced(a.number);
-    spaced(a.place);
-    spaced(a.length);
-    spaced(a.steps);
-    spaced(a.clauses);
-    spaced(a.nodes);
+fn numbers(rt: &impl Print, a: Answer) -> io::Result<()> {
+    spaced(rt, a.number)?;
+    spaced(rt, a.place)?;
+    spaced(rt, a.length)?;
+    spaced(rt, a.steps)?;
+    spaced(rt, a.clauses)?;
+    spaced(rt, a.nodes)
 }
 
 // A case that is not met.
-pub fn answer(case: u32, got: Answer, recorded: Answer) {
-    text(b"case ");
-    number(case);
-    text(b": answer");
-    numbers(got);
-    text(b", recorded");
-    numbers(recorded);
-    text(b"\n");
+pub fn answer(rt: &impl Print, case: u32, got: Answer, recorded: Answer) -> io::Result<()> {
+    text(rt, "case ")?;
+    number(rt, case)?;
+    text(rt, ": answer")?;
+    numbers(rt, got)?;
+    text(rt, ", recorded")?;
+    numbers(rt, recorded)?;
+    text(rt, "\n")
 }
 
 // The first byte of its log that is not as recorded.
-pub fn log(at: usize, got: u8, recorded: u8) {
-    text(b"  log byte ");
-    io::print_decimal(STDOUT_FILENO, at as u64);
-    text(b" is ");
-    number(got as u32);
-    text(b", recorded ");
-    number(recorded as u32);
-    text(b"\n");
+pub fn log(rt: &impl Print, at: usize, got: u8, recorded: u8) -> io::Result<()> {
+    println!(rt; "  log byte {at} is {got}, recorded {recorded}")
 }
 
 // Case 0 is the count at the front.
-pub fn unread(case: u32) {
-    text(b"case ");
-    number(case);
-    text(b" does not read\n");
+pub fn unread(rt: &impl Print, case: u32) -> io::Result<()> {
+    println!(rt; "case {case} does not read")
 }
 
-pub fn left_over() {
-    text(b"bytes after the last case\n");
+pub fn left_over(rt: &impl Print) -> io::Result<()> {
+    println!(rt; "bytes after the last case")
 }
 
-pub fn total(cases: u32, met: u32)
+pub fn total(rt: &impl Print, cases: u32, met: u32) -> io::Result<()>
     requires { met ≤ cases }
 {
-    number(cases);
-    text(b" recorded answers: ");
-    number(met);
-    text(b" met, ");
-    number(cases - met);
-    text(b" not\n");
+    let unmet = cases - met;
+    println!(rt; "{cases} recorded answers: {met} met, {unmet} not")
 }

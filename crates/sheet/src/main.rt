@@ -1,36 +1,56 @@
 // Reads a script from standard input to its end and writes its sheet to standard output.
-ghost use Rattle.std.specs.Prelude.{◌≡◌, ◌≤◌, length, take};
-ghost use Rattle.io.specs.Counts.{IsPrefixLen};
+#![tactic(auto)]
+
+ghost use Rattle.std.specs.Prelude.{◌≡◌, ◌≤◌, ◌+◌, length, take, ◌++◌, IfSome, OnOk};
+ghost use Rattle.std.specs.Io.KnownBytes.{Appends, IsAtEnd};
+ghost use Rattle.sizes.specs.Sizes.{most_bytes};
 ghost use Rattle.lines.specs.Sheet.{sheet, most_sheet};
 
-use libc::{STDIN_FILENO, STDOUT_FILENO};
+use std::alloc::Global;
+use std::io;
+use std::io::{Read, Write};
 
-// Reads on to the end of the input, so that its writer is not cut off. The number of turns, of 65,536 bytes each, is a
-// bound that no input reaches.
-fn read_on() {
-    let mut rest = io::large_buffer();
-    for i in 0..4294967295u32 {
-        if io::read_full(STDIN_FILENO, &mut rest) == 0 {
-            return;
-        }
-    }
+// Reads on to the end of the input, so that its writer is not cut off.
+fn read_on<R: Read>(input: &mut R) -> io::Result<()>
+    ensures { OnOk result (IsAtEnd (R.remaining input.new)) }
+{
+    io::copy(input, &mut io::sink())?;
+    Ok(())
 }
 
 // The whole sheet at the start of `text`, and how many bytes it has.
 fn whole(script: &[u8], text: &mut [u8]) -> usize
     requires { most_sheet ≤ length text.old }
-    ensures prefix_len { IsPrefixLen result text.new }
-    ensures text_after { take result text.new ≡ sheet script.now }
+    ensures counts { (result ≤ length text.new) × (result ≡ length (take result text.new)) }
+    ensures sheet { take result text.new ≡ sheet script.now }
 {
     lines::sheet(script, text)
 }
 
-fn main() {
+// Puts the script into `to`, and reads the input to its end.
+fn read_script<R: Read>(input: &mut R, to: &mut Vec<u8>) -> io::Result<()>
+    ensures script { OnOk result (IfSome (R.remaining input.old)
+        (λ bs. to.new.items ≡ to.old.items ++ take (most_bytes + 1) bs)) }
+    ensures end { OnOk result (IsAtEnd (R.remaining input.new)) }
+{
     // one byte more than a script may have, so that a longer one is refused
-    let mut script = [0u8; sizes::MOST_BYTES + 1];
-    let n = io::read_full(STDIN_FILENO, &mut script);
-    read_on();
+    input.take(sizes::MOST_BYTES as u64 + 1).read_to_end(to)?;
+    read_on(input)
+}
+
+// Reads a script to its end and writes its sheet.
+fn print_sheet<R: Read, W: Write>(alloc: Global, input: &mut R, output: &mut W) -> io::Result<()>
+    ensures sheet { OnOk result (IfSome (R.remaining input.old)
+        (λ script. Appends (W.contents output.old) (W.contents output.new) (sheet script))) }
+    ensures end { OnOk result (IsAtEnd (R.remaining input.new)) }
+{
+    let mut script = Vec::new(alloc);
+    read_script(input, &mut script)?;
     let mut text = [0u8; lines::MOST_SHEET];
-    let m = whole(&script[..n], &mut text);
-    io::write_all(STDOUT_FILENO, &text[..m]);
+    let m = whole(&script, &mut text);
+    output.write_all(&text[..m])
+}
+
+fn main(rt: HostRuntime) -> io::Result<()> {
+    print_sheet(rt.alloc(), &mut rt.reader(), &mut io::writer(&rt))
 }
