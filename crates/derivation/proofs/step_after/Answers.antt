@@ -1,4 +1,4 @@
--- `derivation::step_after` meets its contract: each case is one of `step_after_lem`.
+-- `derivation::step_after` meets its contract: each case is one of `step_after`.
 use borrow.Author.Tests.{lt-ltb, le-ltb}
 use Rattle.derivation.specs.Operands.{step_after}
 use Rattle.derivation.proofs.step_after.Goals as goal

@@ -7,7 +7,7 @@ pub push_ones-requires : goal.push_ones-requires
 push_ones-requires c = (search rules, search rules, sym c.are_ones.ensures ∙ c.if-are_ones.true)
 
 pub returns-then-are_ones : goal.returns-then-are_ones
-returns-then-are_ones c = c.push_ones.ensures  -- CLAUSES puts upper_bound
+returns-then-are_ones c = c.push_ones.ensures
 
 pub returns : goal.returns
-returns c = c.push_any.ensures  -- CLAUSES puts upper_bound
+returns c = c.push_any.ensures
