@@ -17,8 +17,7 @@ DECLARED = re.compile(
     r"^\s*(?:pub |abbrev |unfoldable |ruleset |data |record |infix[lr]? \d+ )*"
     r"([^\s(){};,.:@\"]+(?: [^\s(){};,.:@\"]+)*) : "
 )
-OWN = {"Rattle", "std", "specs", "proofs"}
-# Names of the goals that the check makes, which the files of a function's proof state.
+# Definitions of the library whose name has an underscore.
 LIBRARY = {"flat_map", "get_or"}
 # Names that would fall together: the lemma takes `_lem`, any other the name beside it.
 LEMMAS = """
