@@ -1,5 +1,6 @@
 // The limits that the code tests, the sizes of its tables and the places in them, each named once. `specs/Sizes.antt` has them
 // for contracts.
+#![tactic(auto)]
 
 // ---- limits
 
