@@ -1,18 +1,17 @@
 -- Worked cases: numbers read, encoded and written, as one theorem over one list; and for each theorem with hypotheses an instance that meets them.
+use Rattle.std.specs.Prelude.{Option, Some, None}
 use mathlib.Core.Path.{◌≡◌, refl}
 use mathlib.Core.List.{List, [], ◌∷◌, ◌++◌, map}
 use Prim.Native.Nat.{ℕ, ◌+◌, ◌≤◌, ◌<◌, ◌^◌}
 use native.Mathlib.Omega.{arith}
 use lib.ListN.{length}
 use Rattle.number.specs.Number.{groups, encode_in, encode, Front, number, bad, above, read_in, read, placed, read_at, written, read_refusal}
-use Rattle.number.specs.declared.Reading.{Reading}
-use Rattle.number.specs.declared.Reading.TheVariants.{Number, Bad}
 use Rattle.number.proofs.Laws.{encode_last, encode_more, encode_length, encode_bytes, read_encode, read_number}
 use Rattle.number.proofs.Places.{read_from-number, read_from-length, read_at-written}
 
 pub data Value : Type 0 where
   front : Front → Value
-  place : Reading → ℕ → Value
+  place : Option (ℕ × ℕ) → ℕ → Value
   bytes : List ℕ → Value
 
 pub record Case : Type 0 where
@@ -22,7 +21,7 @@ pub record Case : Type 0 where
 reads : List ℕ → Front → Case
 reads bs r = record { got = front (read bs); want = front r }
 
-reads_at : List ℕ → ℕ → Reading → ℕ → Case
+reads_at : List ℕ → ℕ → Option (ℕ × ℕ) → ℕ → Case
 reads_at s at r refusal = record { got = place (read_at s at) (read_refusal (read_at s at)); want = place r refusal }
 
 encodes : ℕ → List ℕ → Case
@@ -54,9 +53,9 @@ cases =
     ∷ reads (0x80 ∷ 0x80 ∷ 0x80 ∷ 0x80 ∷ 0x01 ∷ []) bad
     ∷ reads (0xff ∷ 0xff ∷ 0xff ∷ 0xff ∷ 0x01 ∷ []) bad
     -- at a place: a number, no number, past the end
-    ∷ reads_at (7 ∷ 0x80 ∷ 0x01 ∷ 9 ∷ []) 1 (Number 128 3) 0
-    ∷ reads_at (7 ∷ 0x80 ∷ 0x00 ∷ []) 1 Bad 2
-    ∷ reads_at (7 ∷ []) 2 Bad 2
+    ∷ reads_at (7 ∷ 0x80 ∷ 0x01 ∷ 9 ∷ []) 1 (Some (128, 3)) 0
+    ∷ reads_at (7 ∷ 0x80 ∷ 0x00 ∷ []) 1 None 2
+    ∷ reads_at (7 ∷ []) 2 None 2
     -- the least and the most of one, two, three and four groups; a number that takes five
     ∷ encodes 0 (0x00 ∷ [])
     ∷ encodes 127 (0x7f ∷ [])
@@ -102,6 +101,6 @@ pub met_groups : length (encode 300) ≤ groups
 unfolding encode encode_in above read_in placed
 met_groups = read_from-length groups (encode 300) 0 (encode_bytes 300) refl
 
-pub met_written : read_at (written (7 ∷ 0 ∷ 0 ∷ []) 1 128) 1 ≡ Number 128 (1 + length (encode 128))
+pub met_written : read_at (written (7 ∷ 0 ∷ 0 ∷ []) 1 128) 1 ≡ Some (128, 1 + length (encode 128))
 unfolding encode encode_in
 met_written = read_at-written (7 ∷ 0 ∷ 0 ∷ []) 1 128 (omega arith) (omega arith)

@@ -1,7 +1,5 @@
 -- Numbers of a script and a log: groups of seven bits, low group first, top bit set where another follows, in shortest form.
-use Rattle.std.specs.Prelude.{true, false, List, [], ◌∷◌, ◌++◌, ℕ, zero, suc, ◌+◌, ◌-◌, ◌*◌, ◌/◌, ◌%◌, ◌<◌, ltb, length, get_or, take, drop}
-use Rattle.number.specs.declared.Reading.{Reading}
-use Rattle.number.specs.declared.Reading.TheVariants.{Number, Bad}
+use Rattle.std.specs.Prelude.{true, false, Option, Some, None, List, [], ◌∷◌, ◌++◌, ℕ, zero, suc, ◌+◌, ◌-◌, ◌*◌, ◌/◌, ◌%◌, ◌<◌, ltb, length, get_or, take, drop}
 
 -- A number that is read takes at most so many groups.
 abbrev pub groups : ℕ
@@ -46,14 +44,14 @@ read bs = read_in groups bs
 -- ---- the number at a place of a list
 
 -- The number, with the place after it in s, of which the list read is the end.
-unfoldable pub placed : List ℕ → Front → Reading
-placed s (number x rest) = Number x (length s - length rest)
-placed s bad = Bad
+unfoldable pub placed : List ℕ → Front → Option (ℕ × ℕ)
+placed s (number x rest) = Some (x, length s - length rest)
+placed s bad = None
 
-abbrev pub read_from : ℕ → List ℕ → ℕ → Reading
+abbrev pub read_from : ℕ → List ℕ → ℕ → Option (ℕ × ℕ)
 read_from g s at = placed s (read_in g (drop at s))
 
-abbrev pub read_at : List ℕ → ℕ → Reading
+abbrev pub read_at : List ℕ → ℕ → Option (ℕ × ℕ)
 read_at s at = read_from groups s at
 
 -- ---- writing x at a place of a log
@@ -64,6 +62,6 @@ written log at x = take at log ++ encode x ++ drop (at + length (encode x)) log
 
 -- ---- the refusal of document 01 that an answer stands for; 0 is none
 
-abbrev pub read_refusal : Reading → ℕ
-read_refusal (Number x e) = 0
-read_refusal Bad = 2
+abbrev pub read_refusal : Option (ℕ × ℕ) → ℕ
+read_refusal (Some (x, e)) = 0
+read_refusal None = 2

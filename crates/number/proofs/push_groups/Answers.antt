@@ -1,38 +1,47 @@
+-- `number::push_groups` meets its contract: of what is left there is more than one group before the last place, and one at it.
 use Rattle.std.proofs.Common.{arith}
-use mathlib.Core.Path.{refl, ap, ◌∙◌}
-use Prim.Native.Nat.{◌+◌, ◌%◌}
+use mathlib.Core.Path.{◌≡◌, refl, ap, ◌∙◌}
+use Prim.Native.Nat.{ℕ, ◌+◌, ◌-◌, ◌≤◌, ◌<◌}
 use native.Mathlib.Numerals.{add-one}
-use lib.ListN.{length, length-set}
+use lib.ListN.{length}
 use Rattle.number.specs.Number.{encode}
-use Rattle.number.proofs.Laws.{encode_last, encode_more, encode_some}
+use Rattle.number.proofs.Laws.{encode_last, encode_more, encode_some, encode_length}
 use Rattle.number.proofs.Places.{sets_written}
 use Rattle.number.proofs.push_groups.Goals as goal
 
-pub loop-rest-init : goal.loop-rest-init
-loop-rest-init c = (refl, refl, refl)
+pub overflow_sub-last : goal.overflow_sub-last
+overflow_sub-last g c = omega (arith, encode_some c.args.x)
 
-pub bounds-log-i : goal.bounds-log-i
-bounds-log-i c = omega (arith, encode_some c.loop-rest.rest)
+pub loop-i-init : goal.loop-i-init
+loop-i-init g c = record { same_log = refl; same_end = omega arith }
 
-pub overflow_add-i : goal.overflow_add-i
-overflow_add-i c = omega (arith, encode_some c.loop-rest.rest)
+-- one group exactly where the number is below 128
+one_group : (x : ℕ) → length (encode x) ≤ 1 → x < 128
+one_group x h = (encode_length x 1 (omega arith)).0 h
 
-pub loop-rest-preserved : goal.loop-rest-preserved
-loop-rest-preserved c =
-    let e = encode_more c.loop-rest.rest c.loop-rest-test.true in
-    (rw add-one (rw e at c.loop-rest.invariant.0), omega (arith, ap length e), length-set c.loop-rest.log c.loop-rest.i (c.loop-rest.rest % 128 + 128) ∙ c.loop-rest.invariant.2)
+more_groups : (x : ℕ) → 1 < length (encode x) → 128 ≤ x
+more_groups x h = grind (arith, (encode_length x 1 (omega arith)).1)
 
-pub bounds-log-i-2 : goal.bounds-log-i-2
-bounds-log-i-2 c = omega (arith, encode_some c.loop-rest.rest)
+pub loop-i-preserved : goal.loop-i-preserved
+loop-i-preserved g c =
+    let e = encode_more c.loop-i.rest (more_groups c.loop-i.rest (omega (arith, c.loop-i.invariant.same_end))) in
+    record {
+      same_log = rw add-one (rw e at c.loop-i.invariant.same_log);
+      same_end = omega (arith, ap length e, c.loop-i.invariant.same_end);
+    }
 
-pub overflow_add-result : goal.overflow_add-result
-overflow_add-result c = omega (arith, encode_some c.loop-rest.rest)
+pub overflow_cast-log-2 : goal.overflow_cast-log-2
+overflow_cast-log-2 g c = omega (arith, one_group c.loop-i.rest (omega (arith, c.loop-i.invariant.same_end, encode_some c.args.x)))
 
-pub shape_of-log : goal.shape_of-log
-shape_of-log c =
-    length-set c.loop-rest.log c.loop-rest.i c.loop-rest.rest ∙ c.loop-rest.invariant.2
+pub bounds-log-last : goal.bounds-log-last
+bounds-log-last g c = omega (arith, encode_some c.args.x)
 
 pub returns : goal.returns
-returns c =
-    let e = encode_last c.loop-rest.rest c.loop-rest-test.false in
-    record { value = omega (arith, ap length e); log_after = (rw e at c.loop-rest.invariant.0) ∙ sets_written c.args.log.now c.args.at c.args.x (encode c.args.x) refl c.requires }
+returns g c =
+    let some = encode_some c.args.x in
+    let e = encode_last c.loop-i.rest (one_group c.loop-i.rest (omega (arith, c.loop-i.invariant.same_end))) in
+    let k : c.args.at + (g.row.N - 1) ≡ c.loop-i.i = omega arith in
+    record {
+      value = omega arith;
+      log_after = rw k ((rw e at c.loop-i.invariant.same_log) ∙ sets_written c.args.log.now c.args.at c.args.x (encode c.args.x) refl (omega arith));
+    }

@@ -1,5 +1,4 @@
--- `number::push_groups` meets its contract. The loop's invariant: writing what is left at `i` comes to the same log and the same end as writing x at `at`.
--- The measure is what is left.
+-- Writing what is left at `i` comes to the same log and the same end as writing x at `at`.
 use mathlib.Core.Path.{◌≡◌}
 use Prim.Native.Nat.{◌+◌}
 use lib.ListN.{length}
@@ -7,11 +6,9 @@ use lib.Seq.{sets}
 use Rattle.number.specs.Number.{encode}
 use Rattle.number.proofs.push_groups.Given as goal
 
-abbrev pub invariant-loop-rest : goal.invariant-loop-rest
-invariant-loop-rest l =
-    (sets l.log l.i (encode l.rest) ≡ sets l.initial.log l.at (encode l.x))
-    × (l.i + length (encode l.rest) ≡ l.at + length (encode l.x))
-    × (length l.log ≡ length l.initial.log)
-
-abbrev pub decreases-loop-rest : goal.decreases-loop-rest
-decreases-loop-rest l = l.rest
+abbrev pub invariant-loop-i : goal.invariant-loop-i
+invariant-loop-i g l =
+    record {
+      same_log : sets l.log l.i (encode l.rest) ≡ sets l.initial.log l.at (encode l.x);
+      same_end : l.i + length (encode l.rest) ≡ l.at + g.row.N;
+    }
