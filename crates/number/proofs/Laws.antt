@@ -55,6 +55,19 @@ unfolding encode
 encode_more zero h = absurd (omega arith)
 encode_more (suc n) h = rw (in_more n (suc n) h, same (suc n / 128) n (suc n / 128) (omega arith) (omega arith))
 
+-- by bytes
+
+pub encode_two : (x a b : ℕ) → 128 ≤ x → x < 16384 → a ≡ x % 128 + 128 → b ≡ x / 128 → encode x ≡ a ∷ b ∷ []
+encode_two x a b h k p q = rw (p, q, encode_more x h, encode_last (x / 128) (omega arith))
+
+pub encode_three : (x a b c : ℕ) → 16384 ≤ x → x < 2097152 → a ≡ x % 128 + 128 → b ≡ x / 128 % 128 + 128 → c ≡ x / 16384 → encode x ≡ a ∷ b ∷ c ∷ []
+encode_three x a b c h k p q r = rw (p, encode_more x (omega arith), encode_two (x / 128) b c (omega arith) (omega arith) q (omega arith))
+
+pub encode_four : (x a b c d : ℕ) → 2097152 ≤ x → x < 268435456 → a ≡ x % 128 + 128 → b ≡ x / 128 % 128 + 128 → c ≡ x / 16384 % 128 + 128
+    → d ≡ x / 2097152 → encode x ≡ a ∷ b ∷ c ∷ d ∷ []
+encode_four x a b c d h k p q r s =
+    rw (p, encode_more x (omega arith), encode_three (x / 128) b c d (omega arith) (omega arith) q (omega arith) (omega arith))
+
 pub encode_some : (x : ℕ) → 0 < length (encode x)
 encode_some = by_groups (λ x. 0 < length (encode x)) (λ x h. rw (encode_last x h) (omega arith)) (λ x h _. rw (encode_more x h) (omega arith))
 

@@ -40,24 +40,23 @@ pub fn read(s: &[u8], at: usize) -> Option<(u32, usize)>
     read_groups(s, at, GROUPS)
 }
 
-// Writes x, which has N groups, at `at`: the place after it.
+// Writes x, which has N groups, at `at`: the place after it. The loop counts from 0, so that it is unrolled where N is known.
 fn push_groups<const N: usize>(log: &mut [u8], at: usize, x: u32) -> usize
     requires { (at + N ≤ length log.old) × (length (encode x) ≡ N) }
     ensures value { result ≡ at + length (encode x) }
     ensures log_after { log.new ≡ written log.old at x }
 {
-    let last = at + (N - 1);
     let mut rest = x;
-    for i in at..last {
-        log[i] = (rest % 128 + 128) as u8;
+    for i in 0..N - 1 {
+        log[at + i] = (rest % 128 + 128) as u8;
         rest = rest / 128;
     }
-    log[last] = rest as u8;
-    last + 1
+    log[at + (N - 1)] = rest as u8;
+    at + N
 }
 
 // Writes x at `at`, whether or not `read` takes as many groups: the place after it. Five groups hold every u32, so there is
-// room for it. The number of groups is a constant, so that each loop is unrolled.
+// room for it. Each number of groups has code of its own, without a loop.
 pub fn push(log: &mut [u8], at: usize, x: u32) -> usize
     requires { at + 5 ≤ length log.old }
     ensures value { result ≡ at + length (encode x) }
