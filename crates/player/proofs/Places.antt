@@ -1,5 +1,5 @@
 -- A script at a place: what its reader comes to, number by number, as the code has it.
-use Rattle.std.specs.Prelude.{Option, Some, None, Result, Ok, Err}
+use Rattle.std.specs.Prelude.{Option, Some, None, ok_or, Result, Ok, Err}
 use mathlib.Core.Path.{◌≡◌, refl, sym, ap, ◌∙◌}
 use mathlib.Core.Bool.{Bool, true, false}
 use mathlib.Core.List.{List}
@@ -7,23 +7,24 @@ use Prim.Native.Nat.{ℕ, zero, suc, ◌-◌, ◌≤◌, ◌<◌}
 use native.Mathlib.Omega.{arith}
 use lib.ListN.{length, drop, length-drop, drop_of_length-le}
 use lib.Seq.{drop-cons}
-use Rattle.number.specs.Number.{groups, read_at, read_refusal}
+use Rattle.number.specs.Number.{groups, read_at}
 use Rattle.number.proofs.Places.{read_from-number, read_from-bad}
 use Rattle.totdb.specs.declared.Side.{Side}
 use Rattle.cert.specs.State.{Head}
+use Rattle.player.specs.Refusals.{numbered}
 use Rattle.player.specs.Script.{Next, command, refuse, get, get_three, get_side, arguments, read_command, read_commands, Script, script, headless, read_script}
-use Rattle.player.specs.Places.{placed, arguments_at, next_at, read_on, read_on_three, triple_at, side_at, leaf_at, join_at, request_at, head_at}
+use Rattle.player.specs.Places.{placed, arguments_at, followed, next_at, read_on, read_on_three, triple_at, side_at, leaf_at, join_at, request_at, head_at}
 use Rattle.player.specs.declared.Command.{Command}
+use Rattle.player.specs.declared.Refusal.{Refusal}
 
 -- The script after its head.
 abbrev pub headed : List ℕ → Option (Head × ℕ) → Script
 headed s (Some (h, e)) = script h (read_commands (length s - e) false (drop e s))
 headed s None = headless
 
--- A command whose numbers are read, where question 2 is answered no if they do not read.
+-- What follows a code, where question 2 is answered no if it does not read.
 abbrev pub or_no_number : Option (Command × ℕ) → Result (Option (Command × ℕ)) ℕ
-or_no_number (Some x) = Ok (Some x)
-or_no_number None = Err (read_refusal None)
+or_no_number r = followed (numbered (ok_or r Refusal.NoNumber))
 
 module _ (s : List ℕ) where
   -- A reader that takes a number and goes on, by places: φ is what becomes of what is read.
