@@ -85,6 +85,7 @@ fn side(script: &[u8], at: usize) -> Option<(Side, usize)>
     ensures { result ≡ side_at script.now at }
 {
     let ((node, offset, limit), end) = triple(script, at)?;
+    // `as`, since `usize` has no `From<u32>`
     let s = Side {
         node: node as usize,
         offset: offset as usize,
