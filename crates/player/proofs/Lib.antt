@@ -1,9 +1,10 @@
 -- Theorems about scripts and the player.
+pub mod Refusals
 pub mod Questions
 pub mod Reading
 pub mod Places
 pub mod Coding
-pub mod Refusal
+pub mod Plays
 pub mod Sound
 pub mod Runs
 pub mod Scripts
