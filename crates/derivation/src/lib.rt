@@ -168,27 +168,13 @@ fn push_both(log: &mut [u8], at: usize, operands: Operands, c: Clause) -> usize
     c.push(log, middle)
 }
 
-// The two records near the end of the log.
-fn put_last_clause(log: &mut [u8], at: usize, operands: Operands, c: Clause) -> usize
-    ensures { Puts (buffer log.old at)
-        (numbers (derivation (sequence operands)) ++ clause_numbers c)
-        (buffer log.new result) }
-{
-    let mut apart = [0u8; CLAUSE_ROOM];
-    let n = push_both(&mut apart, 0, operands, c);
-    record::copy_out(log, at, &apart, n)
-}
-
 // The two records of a clause, if both fit.
 pub fn put_clause(log: &mut [u8], at: usize, operands: Operands, c: Clause) -> usize
     ensures { Puts (buffer log.old at)
         (numbers (derivation (sequence operands)) ++ clause_numbers c)
         (buffer log.new result) }
 {
-    if record::fits(log.len(), at, CLAUSE_ROOM) {
-        return push_both(log, at, operands, c);
-    }
-    put_last_clause(log, at, operands, c)
+    record::put_record::<CLAUSE_ROOM, _>(log, at, |log, at| push_both(log, at, operands, c))
 }
 
 // ---- a clause with both parts, whose step adds up three steps, as in most: the records are those of `push_both`. They are
