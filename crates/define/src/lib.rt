@@ -73,10 +73,7 @@ pub fn count_real(len: usize, value: usize) -> u32
     ensures value { (x : Node) → Rattle.totdb.specs.Nodes.len x ≡ len → result ≡ steps (real_records x value) }
     ensures upper_bound { result ≤ 2 }
 {
-    if value == 0 {
-        return 1;
-    }
-    if len < value { 1 } else { 2 }
+    if value == 0 || len < value { 1 } else { 2 }
 }
 
 // The next `count` steps are those of the key at `slot`, which is marked.
@@ -119,11 +116,8 @@ pub fn look_up_real(
     ensures { Simulates nodes.now (λ t s. RealOf t node value) (λ t s. look_up t (real node value) s)
         (memory store.old log.old at) (memory store.new log.new result) }
 {
-    if log.len() < at {
-        return at;
-    }
     let slot = store_at(node) + value;
-    if store[slot] != 0 {
+    if log.len() < at || store[slot] != 0 {
         return at;
     }
     let row = rows::row_at(node);
@@ -148,10 +142,7 @@ fn look_up_zero(outputs: &[u32], store: &mut [u32], log: &mut [u8], at: usize, s
         (λ t s. look_up t (window_zero n f m) s)
         (memory store.old log.old at) (memory store.new log.new result) }
 {
-    if log.len() < at {
-        return at;
-    }
-    if store[slot] != 0 {
+    if log.len() < at || store[slot] != 0 {
         return at;
     }
     let end = record::put_sum(log, at, outputs, false, bare());
@@ -215,11 +206,8 @@ fn look_up_window(nodes: &[u32], store: &mut [u32], log: &mut [u8], at: usize, s
         (λ t u. look_up t (window s.side.node s.side.offset s.len) u)
         (memory store.old log.old at) (memory store.new log.new result) }
 {
-    if log.len() < at {
-        return at;
-    }
     let slot = s.window;
-    if store[slot + 1] != 0 {
+    if log.len() < at || store[slot + 1] != 0 {
         return at;
     }
     let side = s.side;
