@@ -2,6 +2,9 @@
 use mathlib.Core.Path.{◌≡◌, refl, sym}
 use mathlib.Core.List.{List, [], ◌∷◌, ◌++◌, append_assoc, append-nil}
 use Prim.Native.Nat.{ℕ, ◌+◌, ◌*◌}
+use Rattle.std.specs.Prelude.{Option, Some}
+use Rattle.std.specs.Option.{is_some}
+use mir.Val.{bool_byte}
 use native.Mathlib.Omega.{arith}
 use lib.ListN.{length, length-append}
 use Rattle.pb.specs.Rules.{Token, saturate}
@@ -11,7 +14,6 @@ use Rattle.cert.specs.Definitions.{Key, Definition, nothing, axiom_of, stored, a
 use Rattle.derivation.specs.Operands.{operand, part, step_tokens, tokens, token_code, token_argument, clause_numbers, whole_numbers}
 use Rattle.totdb.specs.Nodes.{Node}
 use Rattle.cert.specs.Requests.{Clause, definition, clause_tokens, def_tokens}
-use Rattle.derivation.specs.declared.Part.{Part}
 use Rattle.derivation.specs.declared.Whole.{Whole}
 use Rattle.derivation.specs.declared.SemDefinition.{SemDefinition}
 use Rattle.derivation.specs.declared.SemDefinition.TheVariants.{None, Step, Axiom}
@@ -105,7 +107,12 @@ clause_step at_step t c =
 
 -- ---- a clause
 
-pub clause_is : (s : ℕ) (left right : Part) (o : ℕ)
+pub part_length : (p : Option ℕ) → bool_byte (is_some p) ≡ length (part p)
+unfolding part
+part_length Option.None = refl
+part_length (Some l) = refl
+
+pub clause_is : (s : ℕ) (left right : Option ℕ) (o : ℕ)
     → 3 ∷ s ∷ (length (part left) + length (part right) + 1) ∷ (part left ++ (part right ++ (o ∷ [])))
     ≡ numbers (clause s (part left ++ part right ++ (o ∷ [])))
 unfolding numbers

@@ -1,3 +1,4 @@
--- The records of a clause, as the code writes them.
+-- The records of a clause and a window's summands, as the code writes them.
 pub mod ClauseRecords
 pub mod ClauseRecordsCases
+pub mod Summands

@@ -1,16 +1,20 @@
 // Writers of a clause's two records, the derivation of its step and the clause, and of a window's summands.
 #![tactic(auto)]
 
-ghost use Rattle.std.specs.Prelude.{◌≡◌, [], ◌∷◌, ◌++◌, ℕ, ◌+◌, ◌≤◌, length};
+ghost use Rattle.std.specs.Prelude.{◌≡◌, cond, [], ◌∷◌, ◌++◌, ℕ, ◌+◌, ◌≤◌, length};
 ghost use Rattle.sizes.specs.Sizes.{most_bytes, width};
 ghost use Rattle.pb.specs.Rules.{step, add, divide, saturate};
 ghost use Rattle.record.specs.Record.{derivation, numbers, token_numbers};
 ghost use Rattle.record.specs.Writing.{buffer, Puts};
 ghost use Rattle.totdb.specs.Nodes.{Node, output};
-ghost use Rattle.cert.specs.Definitions.{Key, add_sequence, if_part, only_if_part, real};
-ghost use Rattle.derivation.specs.Operands.{step_after, next_step, part, step_tokens, tokens, token_code, token_argument, clause_numbers, clause_room, whole_numbers};
+ghost use Rattle.cert.specs.Definitions.{Key, add_sequence, real};
+ghost use Rattle.derivation.specs.Operands.{step_after, next_step, part, sequence, tokens, token_code, token_argument, clause_numbers, clause_room, whole_numbers};
+ghost use Rattle.derivation.specs.Summands.{summand};
 
-// A definition as a derivation adds it: nothing, the step that defines it, or a literal axiom.
+use record::{codes, kinds};
+
+// A definition as a derivation adds it: nothing, the step that defines it, or a literal axiom. It is an enum of its own, since
+// a derivation adds no value but one of these three, and takes each apart by `if let` and `let else`.
 #[derive(Clone, Copy)]
 pub enum SemDefinition {
     None,
@@ -18,19 +22,20 @@ pub enum SemDefinition {
     Axiom(u32),
 }
 
-// One of the two literals of a clause that may be absent.
+// What a clause's step adds up: this definition, then those of the two sides.
 #[derive(Clone, Copy)]
-pub enum Part {
-    Absent,
-    Literal(u32),
+pub struct Operands {
+    pub this: SemDefinition,
+    pub left: SemDefinition,
+    pub right: SemDefinition,
 }
 
 // A clause with its step: the parts that there are, then the output.
 #[derive(Clone, Copy)]
 pub struct Clause {
     pub step: u32,
-    pub left: Part,
-    pub right: Part,
+    pub left: Option<u32>,
+    pub right: Option<u32>,
     pub output: u32,
 }
 
@@ -49,9 +54,9 @@ fn token_code(d: SemDefinition) -> u32
     ensures { result ≡ token_code d }
 {
     if let SemDefinition::Axiom(_) = d {
-        1
+        codes::AXIOM
     } else {
-        0
+        codes::STEP
     }
 }
 
@@ -91,134 +96,103 @@ fn push_added(log: &mut [u8], at: usize, d: SemDefinition) -> usize
         return at;
     }
     let after_tokens = push_definition(log, at, d);
-    record::push(log, after_tokens, 2)
+    record::push(log, after_tokens, codes::ADD)
 }
 
-// How many tokens the derivation of a clause's step has.
-fn count_step_tokens(this: SemDefinition, left: SemDefinition, right: SemDefinition) -> u32
-    ensures { result ≡ length (step_tokens this left right) }
-{
-    count_tokens(this) + 2 * count_tokens(left) + 2 * count_tokens(right) + 1
+impl Operands {
+    // How many tokens the derivation has.
+    fn count(self) -> u32
+        ensures { result ≡ length (sequence self) }
+    {
+        count_tokens(self.this) + 2 * count_tokens(self.left) + 2 * count_tokens(self.right) + 1
+    }
+
+    // The derivation of a clause's step: this definition, plus left, plus right, saturated.
+    fn push(self, log: &mut [u8], at: usize) -> usize
+        requires { at + 55 ≤ length log.old }
+        ensures puts { Puts (buffer log.old at) (numbers (derivation (sequence self))) (buffer log.new result) }
+        ensures upper_bound { result ≤ at + 55 }
+    {
+        let after_kind = record::push(log, at, kinds::DERIVATION);
+        let after_count = record::push(log, after_kind, self.count());
+        let after_this = push_definition(log, after_count, self.this);
+        let after_left = push_added(log, after_this, self.left);
+        let after_right = push_added(log, after_left, self.right);
+        record::push(log, after_right, codes::SATURATE)
+    }
 }
 
-// The derivation of a clause's step: this definition, plus left, plus right, saturated.
-fn push_step(
-    log: &mut [u8],
-    at: usize,
-    this: SemDefinition,
-    left: SemDefinition,
-    right: SemDefinition,
-) -> usize
-    requires { at + 55 ≤ length log.old }
-    ensures puts { Puts (buffer log.old at) (numbers (derivation (step_tokens this left right))) (buffer log.new result) }
-    ensures upper_bound { result ≤ at + 55 }
-{
-    let after_kind = record::push(log, at, 2);
-    let after_count = record::push(log, after_kind, count_step_tokens(this, left, right));
-    let after_this = push_definition(log, after_count, this);
-    let after_left = push_added(log, after_this, left);
-    let after_right = push_added(log, after_left, right);
-    record::push(log, after_right, 4)
-}
-
-// How many literals a part has.
-fn count_literals(p: Part) -> u32
-    ensures { (result ≡ length (part p)) × (result ≤ 1) }
-{
-    if let Part::Absent = p { 0 } else { 1 }
-}
-
-// How many literals a clause has.
-fn count_clause_literals(left: Part, right: Part) -> u32
-    ensures { result ≡ length (part left) + length (part right) + 1 }
-{
-    count_literals(left) + count_literals(right) + 1
-}
-
-fn push_part(log: &mut [u8], at: usize, p: Part) -> usize
+// A literal of a clause, if there is one.
+fn push_part(log: &mut [u8], at: usize, p: Option<u32>) -> usize
     requires { at + 5 ≤ length log.old }
     ensures puts { Puts (buffer log.old at) (part p) (buffer log.new result) }
     ensures upper_bound { result ≤ at + 5 }
 {
-    let Part::Literal(l) = p else {
+    let Some(l) = p else {
         return at;
     };
     record::push(log, at, l)
 }
 
-// The clause.
-fn push_clause(log: &mut [u8], at: usize, c: Clause) -> usize
-    requires { at + 30 ≤ length log.old }
-    ensures puts { Puts (buffer log.old at) (clause_numbers c) (buffer log.new result) }
-    ensures upper_bound { result ≤ at + 30 }
-{
-    let left = c.left;
-    let right = c.right;
-    let after_kind = record::push(log, at, 3);
-    let after_step = record::push(log, after_kind, c.step);
-    let after_count = record::push(log, after_step, count_clause_literals(left, right));
-    let after_left = push_part(log, after_count, left);
-    let after_right = push_part(log, after_left, right);
-    record::push(log, after_right, c.output)
+impl Clause {
+    // How many literals it has.
+    fn count(self) -> u32
+        ensures { result ≡ length (part self.left) + length (part self.right) + 1 }
+    {
+        self.left.is_some() as u32 + self.right.is_some() as u32 + 1
+    }
+
+    fn push(self, log: &mut [u8], at: usize) -> usize
+        requires { at + 30 ≤ length log.old }
+        ensures puts { Puts (buffer log.old at) (clause_numbers self) (buffer log.new result) }
+        ensures upper_bound { result ≤ at + 30 }
+    {
+        let after_kind = record::push(log, at, kinds::CLAUSE);
+        let after_step = record::push(log, after_kind, self.step);
+        let after_count = record::push(log, after_step, self.count());
+        let after_left = push_part(log, after_count, self.left);
+        let after_right = push_part(log, after_left, self.right);
+        record::push(log, after_right, self.output)
+    }
 }
 
 // The two records of a clause, where there is room: the derivation of its step, then the clause.
-fn push_both(
-    log: &mut [u8],
-    at: usize,
-    this: SemDefinition,
-    left: SemDefinition,
-    right: SemDefinition,
-    c: Clause,
-) -> usize
+fn push_both(log: &mut [u8], at: usize, operands: Operands, c: Clause) -> usize
     requires { at + clause_room ≤ length log.old }
     ensures puts { Puts (buffer log.old at)
-        (numbers (derivation (step_tokens this left right)) ++ clause_numbers c)
+        (numbers (derivation (sequence operands)) ++ clause_numbers c)
         (buffer log.new result) }
     ensures upper_bound { result ≤ at + clause_room }
 {
-    let middle = push_step(log, at, this, left, right);
-    push_clause(log, middle, c)
+    let middle = operands.push(log, at);
+    c.push(log, middle)
 }
 
 // The two records near the end of the log.
-fn put_last_clause(
-    log: &mut [u8],
-    at: usize,
-    this: SemDefinition,
-    left: SemDefinition,
-    right: SemDefinition,
-    c: Clause,
-) -> usize
+fn put_last_clause(log: &mut [u8], at: usize, operands: Operands, c: Clause) -> usize
     ensures { Puts (buffer log.old at)
-        (numbers (derivation (step_tokens this left right)) ++ clause_numbers c)
+        (numbers (derivation (sequence operands)) ++ clause_numbers c)
         (buffer log.new result) }
 {
     let mut apart = [0u8; CLAUSE_ROOM];
-    let n = push_both(&mut apart, 0, this, left, right, c);
+    let n = push_both(&mut apart, 0, operands, c);
     record::copy_out(log, at, &apart, n)
 }
 
 // The two records of a clause, if both fit.
-pub fn put_clause(
-    log: &mut [u8],
-    at: usize,
-    this: SemDefinition,
-    left: SemDefinition,
-    right: SemDefinition,
-    c: Clause,
-) -> usize
+pub fn put_clause(log: &mut [u8], at: usize, operands: Operands, c: Clause) -> usize
     ensures { Puts (buffer log.old at)
-        (numbers (derivation (step_tokens this left right)) ++ clause_numbers c)
+        (numbers (derivation (sequence operands)) ++ clause_numbers c)
         (buffer log.new result) }
 {
     if record::fits(log.len(), at, CLAUSE_ROOM) {
-        return push_both(log, at, this, left, right, c);
+        return push_both(log, at, operands, c);
     }
-    put_last_clause(log, at, this, left, right, c)
+    put_last_clause(log, at, operands, c)
 }
 
-// ---- a clause with both parts, whose step adds up three steps, as in most: the records are those of `push_both`
+// ---- a clause with both parts, whose step adds up three steps, as in most: the records are those of `push_both`. They are
+// written by functions of their own, since most of the log is such records, and no number of theirs needs a test.
 
 // The numbers of such a clause, and of the derivation of its step.
 #[derive(Clone, Copy)]
@@ -238,9 +212,9 @@ fn push_first_step(log: &mut [u8], at: usize, x: u32) -> usize
     ensures puts { Puts (buffer log.old at) (2 ∷ 6 ∷ 0 ∷ x ∷ []) (buffer log.new result) }
     ensures upper_bound { result ≤ at + 20 }
 {
-    let after_kind = record::push(log, at, 2);
+    let after_kind = record::push(log, at, kinds::DERIVATION);
     let after_count = record::push(log, after_kind, 6);
-    let after_code = record::push(log, after_count, 0);
+    let after_code = record::push(log, after_count, codes::STEP);
     record::push(log, after_code, x)
 }
 
@@ -250,9 +224,9 @@ fn push_added_step(log: &mut [u8], at: usize, x: u32) -> usize
     ensures puts { Puts (buffer log.old at) (0 ∷ x ∷ 2 ∷ []) (buffer log.new result) }
     ensures upper_bound { result ≤ at + 15 }
 {
-    let after_code = record::push(log, at, 0);
+    let after_code = record::push(log, at, codes::STEP);
     let after_step = record::push(log, after_code, x);
-    record::push(log, after_step, 2)
+    record::push(log, after_step, codes::ADD)
 }
 
 // The derivation of the step.
@@ -266,7 +240,7 @@ fn push_whole_step(log: &mut [u8], at: usize, w: Whole) -> usize
     let after_this = push_first_step(log, at, w.this);
     let after_left = push_added_step(log, after_this, w.left);
     let after_right = push_added_step(log, after_left, w.right);
-    record::push(log, after_right, 4)
+    record::push(log, after_right, codes::SATURATE)
 }
 
 // The clause.
@@ -276,7 +250,7 @@ fn push_whole_clause(log: &mut [u8], at: usize, w: Whole) -> usize
         (3 ∷ w.step ∷ 3 ∷ w.left_part ∷ w.right_part ∷ w.output ∷ [])
         (buffer log.new result) }
 {
-    let after_kind = record::push(log, at, 3);
+    let after_kind = record::push(log, at, kinds::CLAUSE);
     let after_step = record::push(log, after_kind, w.step);
     let after_count = record::push(log, after_step, 3);
     let after_left = record::push(log, after_count, w.left_part);
@@ -305,13 +279,14 @@ fn push_divided(log: &mut [u8], at: usize, this: u32, that: u32, divisor: u32) -
 {
     let after_this = push_definition(log, at, SemDefinition::Step(this));
     let after_sum = push_added(log, after_this, SemDefinition::Step(that));
-    let after_kind = record::push(log, after_sum, 3);
+    let after_kind = record::push(log, after_sum, codes::DIVIDE);
     let after_divisor = record::push(log, after_kind, divisor);
-    record::push(log, after_divisor, 4)
+    record::push(log, after_divisor, codes::SATURATE)
 }
 
-// The summand at s of the if of v: `this` is the real if of v, `that` the real only-if of s, `literal` the output of s.
-pub fn push_if_part(
+// The summand at s of the only-if of v, or of its if: `this` is the real definition of v in that direction, `that` the real one
+// of s in the other, `literal` the output of s. On one side of v the two are added up, on the other a literal is assumed.
+pub fn push_summand(
     log: &mut [u8],
     at: usize,
     v: u32,
@@ -319,45 +294,22 @@ pub fn push_if_part(
     this: u32,
     that: u32,
     literal: u32,
+    only_if: bool,
 ) -> usize
-    requires { (s ≤ width) × (at + 40 ≤ length log.old) }
+    requires { (cond only_if v s ≤ width) × (at + 40 ≤ length log.old) }
     ensures puts { (at_step : Key → ℕ → ℕ) (n : ℕ) (x : Node)
-        → at_step (real n v) 0 ≡ this → at_step (real n s) 1 ≡ that → output x s ≡ literal
-        → Puts (buffer log.old at) (token_numbers (if_part at_step n x v s)) (buffer log.new result) }
+        → at_step (real n v) (cond only_if 1 0) ≡ this → at_step (real n s) (cond only_if 0 1) ≡ that → output x s ≡ literal
+        → Puts (buffer log.old at) (token_numbers (summand only_if at_step n x v s)) (buffer log.new result) }
     ensures upper_bound { result ≤ at + 40 }
 {
-    if s < v {
-        return push_definition(log, at, SemDefinition::Axiom(pb::neg(literal)));
+    if s == v {
+        return at;
     }
-    if v < s {
-        return push_divided(log, at, this, that, s - v + 1);
+    if (s < v) == only_if {
+        return push_divided(log, at, this, that, v.abs_diff(s) + 1);
     }
-    at
-}
-
-// The summand at s of the only-if of v: `this` is the real only-if of v, `that` the real if of s, `literal` the output of s.
-pub fn push_only_if_part(
-    log: &mut [u8],
-    at: usize,
-    v: u32,
-    s: u32,
-    this: u32,
-    that: u32,
-    literal: u32,
-) -> usize
-    requires { (v ≤ width) × (at + 40 ≤ length log.old) }
-    ensures puts { (at_step : Key → ℕ → ℕ) (n : ℕ) (x : Node)
-        → at_step (real n v) 1 ≡ this → at_step (real n s) 0 ≡ that → output x s ≡ literal
-        → Puts (buffer log.old at) (token_numbers (only_if_part at_step n x v s)) (buffer log.new result) }
-    ensures upper_bound { result ≤ at + 40 }
-{
-    if s < v {
-        return push_divided(log, at, this, that, v - s + 1);
-    }
-    if v < s {
-        return push_definition(log, at, SemDefinition::Axiom(literal));
-    }
-    at
+    let assumed = if only_if { literal } else { pb::neg(literal) };
+    push_definition(log, at, SemDefinition::Axiom(assumed))
 }
 
 // The step k places after n. It stops at a number that no log reaches, so that the sum is a u32.

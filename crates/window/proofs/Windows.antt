@@ -19,9 +19,11 @@ use Rattle.memo.proofs.Lists.{flat_map_append}
 use Rattle.totdb.proofs.Listed.{length_range}
 use Rattle.cert.specs.Definitions.{Key, add_sequence, at_least_zero, key_records, window, window_pair}
 use Rattle.cert.proofs.Apart.{range_mem}
-use Rattle.cert.proofs.Summands.{if_low, if_high, if_own, only_if_low, only_if_high, only_if_own}
+use Rattle.cert.proofs.Summands.{if_low, if_high, only_if_low, only_if_high}
 use Rattle.cert.proofs.WindowDerivations.{range_around}
-use Rattle.window.specs.Window.{added, first_other, Handed, summand, tokens_of}
+use Rattle.derivation.specs.Summands.{summand}
+use Rattle.derivation.proofs.Summands.{summand_own}
+use Rattle.window.specs.Window.{added, first_other, Handed, tokens_of}
 use Rattle.window.proofs.Totals.{added_length, range_first, range_skip, total_length}
 
 -- ---- the two derivations of value v: its only-if where o is true, else its if
@@ -29,14 +31,6 @@ use Rattle.window.proofs.Totals.{added_length, range_first, range_skip, total_le
 module _ (o : Bool) (at_step : Key → ℕ → ℕ) (n : ℕ) (x : Node) (v : ℕ) where
   abbrev summands : ℕ → List Token
   summands = summand o at_step n x v
-
-  pub summand_own : (s : ℕ) → s ≡ v → summands s ≡ []
-  unfolding summand
-  summand_own s e = go o
-    where
-      go : (o : Bool) → summand o at_step n x v s ≡ []
-      go true = only_if_own at_step n x v s (omega arith) (omega arith)
-      go false = if_own at_step n x v s (omega arith) (omega arith)
 
   summand_low : (s : ℕ) → s < v → length (summands s) ≡ suc (cond o 4 0)
   unfolding summand
@@ -74,7 +68,7 @@ module _ (o : Bool) (at_step : Key → ℕ → ℕ) (n : ℕ) (x : Node) (v : �
           total_length summands (range (f + 1) m),
           range_around f m v above below,
           flat_map_append (added summands),
-          summand_own v refl,
+          summand_own at_step n x v v o refl,
           length-append,
           low,
           high,
@@ -93,7 +87,7 @@ module _ (o : Bool) (at_step : Key → ℕ → ℕ) (n : ℕ) (x : Node) (v : �
             let q = eqb-true v (f + 1) e in
             let i : f + 1 + 1 ≡ f + 2 = omega arith in
             let j : m - 1 - 1 ≡ f + m - (f + 2) = omega arith in
-            range_skip summands (f + 1) m (omega arith) (summand_own (f + 1) (sym q))
+            range_skip summands (f + 1) m (omega arith) (summand_own at_step n x v (f + 1) o (sym q))
             ∙ range_first summands (f + 1 + 1) (m - 1) (omega arith) (summand_other (f + 1 + 1) (λ k. absurd (omega arith)))
             ∙ rw (i, j)
         go false e =

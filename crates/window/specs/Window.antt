@@ -1,10 +1,11 @@
 -- What the code is handed for a window, the two derivations of a value as one definition, and the room that they take.
-use Rattle.std.specs.Prelude.{◌≡◌, Bool, true, false, cond, List, [], map, ℕ, ◌+◌, ◌-◌, ◌*◌, ◌≤◌, ◌<◌, eqb, length, get_or}
+use Rattle.std.specs.Prelude.{◌≡◌, Bool, cond, List, [], map, ℕ, ◌+◌, ◌-◌, ◌*◌, ◌≤◌, ◌<◌, eqb, length, get_or}
 use Rattle.sizes.specs.Sizes.{width, left_window_column}
 use Rattle.pb.specs.Rules.{Token}
 use Rattle.totdb.specs.Nodes.{Node, output, range}
-use Rattle.cert.specs.Definitions.{Key, add_sequence, real, if_part, only_if_part, total}
+use Rattle.cert.specs.Definitions.{Key, add_sequence, real, total}
 use Rattle.derivation.specs.Operands.{next_step}
+use Rattle.derivation.specs.Summands.{summand}
 
 -- ---- what the code is handed
 
@@ -32,12 +33,6 @@ pub record WindowValue (offset len value : ℕ) : Type 0 where
   pub below : value ≤ offset + len
 
 -- ---- the two derivations of a value
-
--- The summand at s of the only-if of v, or of its if.
-unfoldable pub summand : Bool → (Key → ℕ → ℕ) → ℕ → Node → ℕ → ℕ → List Token
-unfolding if_part only_if_part
-summand true at_step n x v s = only_if_part at_step n x v s
-summand false at_step n x v s = if_part at_step n x v s
 
 -- The tokens of the only-if of v in a window, or of its if.
 unfoldable pub tokens_of : Bool → (Key → ℕ → ℕ) → ℕ → Node → ℕ → ℕ → ℕ → List Token

@@ -8,7 +8,8 @@ ghost use Rattle.record.specs.Record.{derivation, numbers, token_numbers};
 ghost use Rattle.record.specs.Writing.{buffer, Puts};
 ghost use Rattle.totdb.specs.Nodes.{Node, node_at, range};
 ghost use Rattle.cert.specs.Definitions.{Key, key_records, window, window_if, window_only_if, window_pair};
-ghost use Rattle.window.specs.Window.{added, added_room, Bounds, derivation_room, first_other, Handed, summand, summand_room, tokens_of, WindowValue};
+ghost use Rattle.derivation.specs.Summands.{summand};
+ghost use Rattle.window.specs.Window.{added, added_room, Bounds, derivation_room, first_other, Handed, summand_room, tokens_of, WindowValue};
 
 use record::Sum;
 
@@ -62,10 +63,19 @@ fn push_summand(
     let literal = outputs[s - 1];
     if only_if {
         let this = derivation::next_step(own);
-        return derivation::push_only_if_part(log, at, value as u32, s as u32, this, other, literal);
+        return derivation::push_summand(
+            log,
+            at,
+            value as u32,
+            s as u32,
+            this,
+            other,
+            literal,
+            true,
+        );
     }
     let that = derivation::next_step(other);
-    derivation::push_if_part(log, at, value as u32, s as u32, own, that, literal)
+    derivation::push_summand(log, at, value as u32, s as u32, own, that, literal, false)
 }
 
 // The summand at s and its addition to what stands before.

@@ -5,4 +5,4 @@ use Rattle.derivation.proofs.push_both.Goals as goal
 
 pub returns : goal.returns
 returns c =
-    record { puts = after c.push_step-middle.ensures.puts c.push_clause.ensures.puts; upper_bound = omega (arith, c.push_step-middle.ensures.upper_bound, c.push_clause.ensures.upper_bound) }
+    record { puts = after c.push-middle.ensures.puts c.push.ensures.puts; upper_bound = omega (arith, c.push-middle.ensures.upper_bound, c.push.ensures.upper_bound) }

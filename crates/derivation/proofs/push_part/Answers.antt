@@ -12,4 +12,4 @@ returns-in_default c =
 pub returns : goal.returns
 unfolding part
 returns c =
-    record { puts = rw c.in-Literal.is c.push.ensures.puts; upper_bound = omega (arith, c.push.ensures.upper_bound) }
+    record { puts = rw c.in-Some.is c.push.ensures.puts; upper_bound = omega (arith, c.push.ensures.upper_bound) }

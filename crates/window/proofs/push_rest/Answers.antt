@@ -6,7 +6,8 @@ use Rattle.record.specs.Record.{token_numbers}
 use Rattle.record.proofs.Tokens.{tokens_append}
 use Rattle.record.proofs.Writing.{after, nothing}
 use Rattle.totdb.specs.Nodes.{range}
-use Rattle.window.specs.Window.{added, summand}
+use Rattle.derivation.specs.Summands.{summand}
+use Rattle.window.specs.Window.{added}
 use Rattle.window.proofs.Totals.{range_more}
 use Rattle.window.proofs.push_rest.Goals as goal
 

@@ -7,7 +7,8 @@ use Rattle.record.specs.Record.{token_numbers}
 use Rattle.record.specs.Writing.{buffer, Puts}
 use Rattle.totdb.specs.Nodes.{Node, range}
 use Rattle.cert.specs.Definitions.{Key}
-use Rattle.window.specs.Window.{added, added_room, Handed, summand}
+use Rattle.window.specs.Window.{added, added_room, Handed}
+use Rattle.derivation.specs.Summands.{summand}
 use Rattle.window.proofs.push_rest.Given as goal
 
 abbrev pub invariant-loop-s : goal.invariant-loop-s

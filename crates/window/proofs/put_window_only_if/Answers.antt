@@ -1,6 +1,7 @@
 -- `window::put_window_only_if` meets its contract: it is the derivation in one direction.
 use Rattle.cert.specs.Definitions.{window_only_if}
-use Rattle.window.specs.Window.{summand, tokens_of}
+use Rattle.derivation.specs.Summands.{summand}
+use Rattle.window.specs.Window.{tokens_of}
 use Rattle.window.proofs.put_window_only_if.Goals as goal
 
 pub returns : goal.returns
