@@ -38,7 +38,7 @@ store_key-requires c =
 pub returns : goal.returns
 unfolding slot pulls
 returns c =
-    let w = rw c.bare.ensures at c.put_sum-end.ensures in
+    let w = rw (c.default.ensures.0, c.default.ensures.1.0, c.default.ensures.1.1) at c.put_sum-end.ensures in
     λ ns n f m.
     let m₀ = memory c.args.store.now c.args.log.now c.args.at in
     let k = window_zero n f m in
