@@ -9,6 +9,8 @@ ghost use Rattle.cert.specs.Definitions.{Key, key_records};
 ghost use Rattle.cert.specs.State.{Stored, stored_steps};
 ghost use Rattle.closing.specs.Closing.{MarkedKeys, SlotOf};
 
+use record::kinds;
+
 // How many steps the definition of a slot has.
 fn count_steps(nodes: &[u32], slot: usize) -> u32
     requires { (t : List Node) × (k : Key) × SlotOf nodes.now t k slot }
@@ -30,14 +32,15 @@ fn count_steps(nodes: &[u32], slot: usize) -> u32
     1
 }
 
-// How many steps the first `marks` definitions have.
+// How many steps the first `marks` definitions have. That the tables have them stays a clause of each function: the caller in C
+// lends the tables as slices, and other commands change them between two closes.
 fn count_stored(nodes: &[u32], store: &[u32], marks: usize) -> u32
     requires { (t : List Node) × (es : List Stored) × MarkedKeys nodes.now store.now marks t es }
     ensures { (t : List Node) (es : List Stored) → MarkedKeys nodes.now store.now marks t es → result ≡ length (stored_steps t es) }
 {
     let mut n = 0u32;
-    for i in 0..marks {
-        n = n + count_steps(nodes, rows::number_at(store, i));
+    for slot in &store[..marks] {
+        n = n + count_steps(nodes, *slot as usize);
     }
     n
 }
@@ -48,8 +51,8 @@ fn put_steps(log: &mut [u8], at: usize, first: u32, count: u32) -> usize
     ensures { Puts (buffer log.old at) (range first count) (buffer log.new result) }
 {
     let mut end = at;
-    for k in 0..count {
-        end = record::put(log, end, first + k);
+    for step in first..first + count {
+        end = record::put(log, end, step);
     }
     end
 }
@@ -61,8 +64,8 @@ fn put_stored(nodes: &[u32], store: &[u32], log: &mut [u8], at: usize, marks: us
         → Puts (buffer log.old at) (stored_steps t es) (buffer log.new result) }
 {
     let mut end = at;
-    for i in 0..marks {
-        let slot = rows::number_at(store, i);
+    for slot in &store[..marks] {
+        let slot = *slot as usize;
         end = put_steps(log, end, store[slot], count_steps(nodes, slot));
     }
     end
@@ -74,7 +77,7 @@ pub fn put_deletion(nodes: &[u32], store: &[u32], log: &mut [u8], at: usize, mar
     ensures { (t : List Node) (es : List Stored) → MarkedKeys nodes.now store.now marks t es
         → Puts (buffer log.old at) (numbers (deletion (stored_steps t es))) (buffer log.new result) }
 {
-    let after_kind = record::put(log, at, 4);
+    let after_kind = record::put(log, at, kinds::DELETION);
     let after_count = record::put(log, after_kind, count_stored(nodes, store, marks));
     put_stored(nodes, store, log, after_count, marks)
 }

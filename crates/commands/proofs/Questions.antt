@@ -3,6 +3,7 @@ use mathlib.Core.Path.{◌≡◌, refl, sym, ◌∙◌, ap}
 use mathlib.Core.Bool.{Bool, true, false}
 use mathlib.Core.List.{List}
 use Prim.Native.Nat.{ℕ, ◌-◌, ◌≤◌, ◌<◌}
+use native.Mathlib.Decide.{dec_le}
 use native.Mathlib.Omega.{arith}
 use borrow.Author.Tests.{lt-ltb, le-ltb, le-leb, lt-leb, eq-eqb, ne_eqb}
 use lib.ListN.{length}
@@ -82,14 +83,14 @@ module _ (h : Head) (t : List Node) (n v d : ℕ) where
     request_zero p = rw p (value_zero h t n there d)
 
     module _ (above : 1 ≤ v) (within : v ≤ len (node_at t n)) where
-      pub request_none : d ≡ 0 → first_no (questions h t (Command.Request n v d)) ≡ 12
+      pub request_12 : (1 ≤ d → d ≤ 3 → ⊥) → first_no (questions h t (Command.Request n v d)) ≡ 12
       unfolding questions first_no
-      request_none p = rw (lt-ltb n (length t) there, le-leb 1 v above, le-leb v (len (node_at t n)) within, lt-leb 1 d (omega arith))
-
-      module _ (some : 1 ≤ d) where
-        pub request_many : 3 < d → first_no (questions h t (Command.Request n v d)) ≡ 12
-        unfolding questions first_no
-        request_many p = rw (lt-ltb n (length t) there, le-leb 1 v above, le-leb v (len (node_at t n)) within, le-leb 1 d some, lt-leb d 3 p)
+      request_12 p = by (dec_le 1 d) (dec_le d 3)
+        where
+          by : Dec (1 ≤ d) → Dec (d ≤ 3) → first_no (questions h t (Command.Request n v d)) ≡ 12
+          by (no q) r = rw (lt-ltb n (length t) there, le-leb 1 v above, le-leb v (len (node_at t n)) within, lt-leb 1 d (omega arith))
+          by (yes q) (no r) = rw (lt-ltb n (length t) there, le-leb 1 v above, le-leb v (len (node_at t n)) within, le-leb 1 d q, lt-leb d 3 (omega arith))
+          by (yes q) (yes r) = absurd (p q r)
 
 -- ---- one side
 

@@ -1,5 +1,5 @@
 -- What the code has at hand between two commands, and the state that it represents.
-use Rattle.std.specs.Prelude.{◌≡◌, cond, List, ℕ, ◌+◌, ◌≤◌, ltb, length, take}
+use Rattle.std.specs.Prelude.{◌≡◌, cond, List, ℕ, ◌+◌, ◌≤◌, ◌<◌, ltb, length, take, Result, MatchResult}
 use Rattle.sizes.specs.Sizes.{row_at, store_at}
 use Rattle.record.specs.Record.{bytes, clauses}
 use Rattle.totdb.specs.Nodes.{leaf_count}
@@ -9,6 +9,8 @@ use Rattle.define.specs.Represents.{Memory, memory, Exact}
 use Rattle.player.specs.Formed.{Formed}
 use Rattle.player.specs.Player.{play, accepted, refused}
 use Rattle.player.specs.declared.Command.{Command}
+use Rattle.request.specs.Directions.{number_of}
+use Rattle.request.specs.declared.Directions.{Directions}
 use Rattle.commands.specs.declared.CommandEnd.{CommandEnd}
 use Rattle.commands.specs.declared.Totals.{Totals}
 
@@ -51,6 +53,10 @@ pub record Ready (ns store log : List ℕ) (z : Totals) : Type 0 where
   pub state : State
   pub standing : Standing head capacity ns (memory store log z.at) z state
   pub room : Room ns store z.nodes
+
+-- The answer to the questions of a request in the direction d: n is the number of the first that fails, 0 for none.
+abbrev pub Asked : ℕ → ℕ → Result Directions ℕ → Type 0
+Asked d n r = MatchResult r (λ k. (number_of k ≡ d) × (n ≡ 0)) (λ e. (0 < e) × (n ≡ e))
 
 -- ---- the end of a command
 

@@ -8,9 +8,10 @@ ghost use Rattle.rows.specs.Rows.{Table};
 ghost use Rattle.define.specs.Represents.{memory};
 ghost use Rattle.player.specs.Player.{first_no, fits_over, questions};
 ghost use Rattle.player.specs.declared.Command.{Command};
-ghost use Rattle.commands.specs.Standing.{Standing, Room, Played, Ready, end_of};
+ghost use Rattle.commands.specs.Standing.{Standing, Room, Played, Ready, Asked, end_of};
 
 use player::Command;
+use request::Directions;
 use totdb::Side;
 
 // How far the play is: the place of the log's next byte, the next step, the clauses, the nodes, the leaves among them, and the
@@ -173,27 +174,30 @@ fn end(length: usize, t: Totals, at: usize, step: u32, clauses: u32) -> CommandE
 }
 
 // Questions 8, 11 and 12.
-fn ask_request(nodes: &[u32], count: usize, node: usize, value: usize, direction: u32) -> u32
+fn ask_request(
+    nodes: &[u32],
+    count: usize,
+    node: usize,
+    value: usize,
+    direction: u32,
+) -> Result<Directions, u32>
     requires { (t : List Node) × Table nodes.now t × (length t ≡ count) }
     ensures { (h : Head) (t : List Node) → Table nodes.now t → length t ≡ count
-        → result ≡ first_no (questions h t (Command.Request node value direction)) }
+        → Asked direction (first_no (questions h t (Command.Request node value direction))) result }
 {
     if count <= node {
-        return 8;
+        return Err(8);
     }
     if value == 0 {
-        return 11;
+        return Err(11);
     }
     if nodes::len(nodes, node) < value {
-        return 11;
+        return Err(11);
     }
-    if direction == 0 {
-        return 12;
-    }
-    if 3 < direction {
-        return 12;
-    }
-    0
+    let Ok(directions) = Directions::try_from(direction) else {
+        return Err(12);
+    };
+    Ok(directions)
 }
 
 // Questions 8, 11 and 12, then all that the request writes, and question 14.
@@ -211,14 +215,16 @@ fn request(
         → Standing h c nodes.now (memory store.old log.old t.at) t s
         → Played h c (Command.Request node value direction) s nodes.now store.new log.new result }
 {
-    let number = ask_request(nodes, t.nodes, node, value, direction);
-    if number != 0 {
-        return CommandEnd {
-            number: number,
-            totals: t,
-        };
-    }
-    let at = request::request(nodes, store, log, t.at, node, value, direction);
+    let directions = match ask_request(nodes, t.nodes, node, value, direction) {
+        Ok(directions) => directions,
+        Err(number) => {
+            return CommandEnd {
+                number: number,
+                totals: t,
+            };
+        }
+    };
+    let at = request::request(nodes, store, log, t.at, node, value, directions);
     end(log.len(), t, at, store[sizes::STEP], store[sizes::CLAUSES])
 }
 

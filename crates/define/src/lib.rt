@@ -27,17 +27,6 @@ pub fn store_at(node: usize) -> usize
     sizes::STORE_START + sizes::STORE_ROW * node
 }
 
-// A sum with bound 0 and no witness, but for its list.
-fn bare() -> Sum
-    ensures { result ≡ record { witness = 0; own = 0; literal = 0 } }
-{
-    Sum {
-        witness: 0,
-        own: 0,
-        literal: 0,
-    }
-}
-
 // The records of the real definition of a value: l is the leaf list, `first` the output of value 1.
 fn put_real(l: &[u32], log: &mut [u8], at: usize, value: usize, first: u32) -> usize
     requires limits { (length l.now ≤ width) × (value ≤ width + 1) × (first ≤ 2 ^ 30) }
@@ -46,17 +35,18 @@ fn put_real(l: &[u32], log: &mut [u8], at: usize, value: usize, first: u32) -> u
         → Puts (buffer log.old at) (flat_map numbers (real_records x value)) (buffer log.new result) }
 {
     let n = l.len();
+    // A sum of value 0, and one above the last value, have bound 0 and no witness.
     if value == 0 {
-        return record::put_sum(log, at, l, false, bare());
+        return record::put_sum(log, at, l, false, Sum::default());
     }
     if n < value {
-        return record::put_sum(log, at, l, true, bare());
+        return record::put_sum(log, at, l, true, Sum::default());
     }
     let literal = first + 2 * (value as u32 - 1);
     let if_sum = Sum {
         witness: literal + 1,
         own: (n + 1 - value) as u32,
-        literal: literal,
+        literal,
     };
     let middle = record::put_sum(log, at, l, true, if_sum);
     let negated = pb::neg(literal);
@@ -73,10 +63,7 @@ pub fn count_real(len: usize, value: usize) -> u32
     ensures value { (x : Node) → Rattle.totdb.specs.Nodes.len x ≡ len → result ≡ steps (real_records x value) }
     ensures upper_bound { result ≤ 2 }
 {
-    if value == 0 {
-        return 1;
-    }
-    if len < value { 1 } else { 2 }
+    if value == 0 || len < value { 1 } else { 2 }
 }
 
 // The next `count` steps are those of the key at `slot`, which is marked.
@@ -119,11 +106,8 @@ pub fn look_up_real(
     ensures { Simulates nodes.now (λ t s. RealOf t node value) (λ t s. look_up t (real node value) s)
         (memory store.old log.old at) (memory store.new log.new result) }
 {
-    if log.len() < at {
-        return at;
-    }
     let slot = store_at(node) + value;
-    if store[slot] != 0 {
+    if log.len() < at || store[slot] != 0 {
         return at;
     }
     let row = rows::row_at(node);
@@ -148,13 +132,10 @@ fn look_up_zero(outputs: &[u32], store: &mut [u32], log: &mut [u8], at: usize, s
         (λ t s. look_up t (window_zero n f m) s)
         (memory store.old log.old at) (memory store.new log.new result) }
 {
-    if log.len() < at {
+    if log.len() < at || store[slot] != 0 {
         return at;
     }
-    if store[slot] != 0 {
-        return at;
-    }
-    let end = record::put_sum(log, at, outputs, false, bare());
+    let end = record::put_sum(log, at, outputs, false, Sum::default());
     store_key(store, slot, 1);
     end
 }
@@ -215,11 +196,8 @@ fn look_up_window(nodes: &[u32], store: &mut [u32], log: &mut [u8], at: usize, s
         (λ t u. look_up t (window s.side.node s.side.offset s.len) u)
         (memory store.old log.old at) (memory store.new log.new result) }
 {
-    if log.len() < at {
-        return at;
-    }
     let slot = s.window;
-    if store[slot + 1] != 0 {
+    if log.len() < at || store[slot + 1] != 0 {
         return at;
     }
     let side = s.side;

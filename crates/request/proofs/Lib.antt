@@ -2,6 +2,7 @@
 pub mod Grow
 pub mod Served
 pub mod Named
+pub mod Numbers
 pub mod Flags
 pub mod Asks
 pub mod Steps

@@ -16,7 +16,7 @@ use Rattle.totdb.specs.Nodes.{Node, leaf, node_at, range}
 use Rattle.cert.specs.Definitions.{Direction, if, only_if}
 use Rattle.cert.specs.Equal.{request_dec}
 use Rattle.cert.specs.Requests.{request, needs, below, named, clauses_of}
-use Rattle.cert.specs.State.{State, write_clause, write_request, serve, requests, directions}
+use Rattle.cert.specs.State.{State, write_clause, write_request, serve}
 use Rattle.rows.specs.Rows.{Table, read_join}
 use Rattle.rows.specs.declared.Join.{Join}
 use Rattle.rows.specs.declared.Shown.{Shown}
@@ -62,15 +62,6 @@ two_new : (t : List Node) (n v : ℕ) (s : State)
     → together t (request n v if ∷ request n v only_if ∷ []) s ≡ write_both t n v s
 unfolding each flat_map
 two_new t n v s = rw (append-nil (needs t (request n v only_if)), each_append (ask_for t) (needs t (request n v if)) (needs t (request n v only_if)) s)
-
--- A direction that is not both is one request.
-one_request : (n v k : ℕ) (b : Bool) → 1 ≤ k → k ≤ 3 → (k ≡ 3 → ⊥) → b ≡ eqb k 2 → requests n v k ≡ request n v (direction b) ∷ []
-unfolding requests directions direction
-one_request n v zero b g h z e = absurd (omega arith)
-one_request n v (suc zero) b g h z e = rw e
-one_request n v (suc (suc zero)) b g h z e = rw e
-one_request n v (suc (suc (suc zero))) b g h z e = absurd (z refl)
-one_request n v (suc (suc (suc (suc k)))) b g h z e = absurd (omega arith)
 
 module _ {ns : List ℕ} where
   -- ---- write_request
@@ -235,20 +226,13 @@ module _ {ns : List ℕ} where
           let high = min v z.len in
           side_done low high (low + (suc high - low)) refl refl (omega arith) (lower_leaf low (suc high - low) (omega arith) (λ i l. omega arith))
 
-  -- ---- both, each_direction, request
+  -- ---- both, one direction
 
   pub both_done : {x : Join} {v : ℕ} {m a b c k : Memory} → Needs ns x v if m a → Needs ns x v only_if a b → Writes ns x v if b c
       → Writes ns x v only_if c k → Simulates ns (λ t s. JoinIn t x v) (λ t s. write_both t x.node v s) m k
   both_done e f g h = sims_then (sims_then (sims_then e f) g) h
 
-  pub one_done : {n v : ℕ} {m a : Memory} (k : ℕ) (b : Bool) → 1 ≤ k → k ≤ 3 → (k ≡ 3 → ⊥) → b ≡ eqb k 2
-      → Asks ns n v (direction b) m a
-      → Simulates ns (λ t s. RequestIn t n v) (λ t s. serve t (requests n v k) s) m a
-  one_done {n = n} {v = v} k b g h z e a = sims_same
-      (λ t s y w. sym (rw (one_request n v k b g h z e)
-      (serve_one t y.bounded.sized s (request n v (direction b)) (asked_right y.bounded w (direction b))))) a
-
-  pub three_done : {n v : ℕ} {m a : Memory} (k : ℕ) → k ≡ 3 → Serves ns n v m a
-      → Simulates ns (λ t s. RequestIn t n v) (λ t s. serve t (requests n v k) s) m a
-  unfolding requests directions
-  three_done k e a = rw e a
+  pub one_done : {n v : ℕ} {m a : Memory} (d : Direction) → Asks ns n v d m a
+      → Simulates ns (λ t s. RequestIn t n v) (λ t s. serve t (request n v d ∷ []) s) m a
+  one_done {n = n} {v = v} d a =
+      sims_same (λ t s y w. sym (serve_one t y.bounded.sized s (request n v d) (asked_right y.bounded w d))) a

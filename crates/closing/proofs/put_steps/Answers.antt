@@ -1,19 +1,26 @@
 use Rattle.std.proofs.Common.{rules, arith}
-use mathlib.Core.Path.{refl}
-use native.Mathlib.Nat.{le_antisymm}
-use native.Mathlib.Numerals.{add-one}
+use mathlib.Core.Path.{◌≡◌, refl}
+use Prim.Native.Nat.{suc, ◌+◌, ◌-◌}
 use Rattle.record.proofs.Writing.{after, nothing}
 use Rattle.totdb.specs.Nodes.{range}
 use Rattle.totdb.proofs.Listed.{range_snoc}
 use Rattle.closing.proofs.put_steps.Goals as goal
 
-pub loop-k-init : goal.loop-k-init
+pub loop-step-init : goal.loop-step-init
 unfolding range
-loop-k-init c = (omega arith, refl, nothing)
+loop-step-init c = (omega arith, omega arith, refl, rw (let e : c.args.first - c.args.first ≡ 0 = omega arith in e) nothing)
 
-pub loop-k-preserved : goal.loop-k-preserved
-loop-k-preserved c =
-    (search rules, search rules, rw (add-one, range_snoc c.args.first c.loop-k.k) (after c.loop-k.invariant.2 c.put-end.ensures))
+pub loop-step-preserved : goal.loop-step-preserved
+loop-step-preserved c =
+    let e : c.loop-step.step + 1 - c.args.first ≡ suc (c.loop-step.step - c.args.first) = omega (arith, c.loop-step.invariant.0) in
+    let f : c.args.first + (c.loop-step.step - c.args.first) ≡ c.loop-step.step = omega (arith, c.loop-step.invariant.0) in (
+      omega (arith, c.loop-step.invariant.0),
+      omega (arith, c.loop-step-test.true),
+      search rules,
+      rw (e, range_snoc c.args.first (c.loop-step.step - c.args.first), f) (after c.loop-step.invariant.3 c.put-end.ensures),
+    )
 
 pub returns : goal.returns
-returns c = rw (le_antisymm c.loop-k.invariant.0 c.loop-k-test.false) at c.loop-k.invariant.2
+returns c =
+    let e : c.loop-step.step - c.args.first ≡ c.args.count = omega (arith, c.loop-step.invariant.1, c.loop-step-test.false) in
+    rw e at c.loop-step.invariant.3

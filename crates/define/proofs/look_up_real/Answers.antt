@@ -11,11 +11,8 @@ use Rattle.define.proofs.Codes.{part_short, real_bounds, row_length, real_node, 
 use Rattle.define.proofs.Looks.{look_up_grows, sims_there, sims_define, sims_new}
 use Rattle.define.proofs.Simulates.{sims_full}
 use Rattle.define.proofs.Slots.{real_named}
+use Rattle.define.proofs.look_up_real.Goals.{then-log-at-via-then-log-at, then-log-at-via-else-log-at+then-store-slot-ne0}
 use Rattle.define.proofs.look_up_real.Goals as goal
-
-pub returns-then-log-at : goal.returns-then-log-at
-returns-then-log-at c =
-    sims_full {m = memory c.args.store.now c.args.log.now c.args.at} (look_up_grows (real c.args.node c.args.value)) c.if-log-at.true
 
 pub overflow_add-slot : goal.overflow_add-slot
 overflow_add-slot c =
@@ -32,11 +29,14 @@ bounds-store-slot c =
     let b = real_bounds c.requires in
     search rules
 
-pub returns-then-store-slot-ne0 : goal.returns-then-store-slot-ne0
+pub returns-then-log-at : goal.returns-then-log-at
 unfolding slot
-returns-then-store-slot-ne0 c =
-    sims_there (real c.args.node c.args.value) (store_at c.args.node + c.args.value) (memory c.args.store.now c.args.log.now c.args.at) c.if-log-at.false
-    (λ t s l p. real_named l.bounded p) (λ t s l p. refl) (rw c.store_at.ensures at c.if-store-slot-ne0.true)
+returns-then-log-at c = elim c.then-log-at.branch [
+  | then-log-at-via-then-log-at w ↦ sims_full {m = memory c.args.store.now c.args.log.now c.args.at} (look_up_grows (real c.args.node c.args.value)) w.if-log-at.true
+  | then-log-at-via-else-log-at+then-store-slot-ne0 w ↦
+      sims_there (real c.args.node c.args.value) (store_at c.args.node + c.args.value) (memory c.args.store.now c.args.log.now c.args.at) w.if-log-at.false
+      (λ t s l p. real_named l.bounded p) (λ t s l p. refl) (rw c.store_at.ensures at w.if-store-slot-ne0.true)
+]
 
 pub slice_bounds-put_real-end : goal.slice_bounds-put_real-end
 slice_bounds-put_real-end c =

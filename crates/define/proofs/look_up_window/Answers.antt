@@ -7,11 +7,8 @@ use Rattle.define.proofs.Looks.{look_up_grows, sims_there, sims_window, rest_rep
 use Rattle.define.proofs.Simulates.{sims_full, sims_under, represented_to, represented_after}
 use Rattle.define.proofs.Slots.{window_named}
 use Rattle.define.proofs.Windows.{window_of, window_slots, window_in, window_several, window_bounds}
+use Rattle.define.proofs.look_up_window.Goals.{then-log-at-via-then-log-at, then-log-at-via-else-log-at+then-store-slot-ne0}
 use Rattle.define.proofs.look_up_window.Goals as goal
-
-pub returns-then-log-at : goal.returns-then-log-at
-returns-then-log-at c =
-    sims_full {m = memory c.args.store.now c.args.log.now c.args.at} (look_up_grows (window c.args.s.side.node c.args.s.side.offset c.args.s.len)) c.if-log-at.true
 
 pub overflow_add-slot : goal.overflow_add-slot
 overflow_add-slot c =
@@ -28,10 +25,14 @@ bounds-store-slot c =
     let b = window_bounds c.requires.table.bounded c.requires.represents c.requires.holds in
     omega (arith, b.inside)
 
-pub returns-then-store-slot-ne0 : goal.returns-then-store-slot-ne0
-returns-then-store-slot-ne0 c =
-    sims_there (window c.args.s.side.node c.args.s.side.offset c.args.s.len) (c.args.s.window + 1) (memory c.args.store.now c.args.log.now c.args.at) c.if-log-at.false
-    (λ t u l x. window_named l.bounded (window_of l.bounded c.args.s x)) (λ t u l x. (window_slots l.bounded c.args.s x).1) c.if-store-slot-ne0.true
+pub returns-then-log-at : goal.returns-then-log-at
+returns-then-log-at c = elim c.then-log-at.branch [
+  | then-log-at-via-then-log-at w ↦
+      sims_full {m = memory c.args.store.now c.args.log.now c.args.at} (look_up_grows (window c.args.s.side.node c.args.s.side.offset c.args.s.len)) w.if-log-at.true
+  | then-log-at-via-else-log-at+then-store-slot-ne0 w ↦
+      sims_there (window c.args.s.side.node c.args.s.side.offset c.args.s.len) (c.args.s.window + 1) (memory c.args.store.now c.args.log.now c.args.at) w.if-log-at.false
+      (λ t u l x. window_named l.bounded (window_of l.bounded c.args.s x)) (λ t u l x. (window_slots l.bounded c.args.s x).1) w.if-store-slot-ne0.true
+]
 
 pub overflow_add-to : goal.overflow_add-to
 overflow_add-to c =

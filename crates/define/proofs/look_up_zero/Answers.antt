@@ -8,11 +8,8 @@ use Rattle.define.proofs.Codes.{zero_bounds, zero_writes, zero_count}
 use Rattle.define.proofs.Looks.{look_up_grows, sims_there, sims_define, sims_new}
 use Rattle.define.proofs.Simulates.{sims_full}
 use Rattle.define.proofs.Slots.{zero_named}
+use Rattle.define.proofs.look_up_zero.Goals.{then-log-at-via-then-log-at, then-log-at-via-else-log-at+then-store-slot-ne0}
 use Rattle.define.proofs.look_up_zero.Goals as goal
-
-pub returns-then-log-at : goal.returns-then-log-at
-returns-then-log-at c =
-    λ ns n f m. sims_full {m = memory c.args.store.now c.args.log.now c.args.at} (look_up_grows (window_zero n f m)) c.if-log-at.true
 
 pub offset_bounds-store-slot : goal.offset_bounds-store-slot
 offset_bounds-store-slot c =
@@ -24,11 +21,14 @@ bounds-store-slot c =
     let b = zero_bounds c.requires.represented.4 in
     search rules
 
-pub returns-then-store-slot-ne0 : goal.returns-then-store-slot-ne0
+pub returns-then-log-at : goal.returns-then-log-at
 unfolding slot
-returns-then-store-slot-ne0 c =
-    λ ns n f m. sims_there (window_zero n f m) c.args.slot (memory c.args.store.now c.args.log.now c.args.at) c.if-log-at.false
-    (λ t s l w. zero_named l.bounded w.shown) (λ t s l w. w.slot) c.if-store-slot-ne0.true
+returns-then-log-at c = λ ns n f m. elim c.then-log-at.branch [
+  | then-log-at-via-then-log-at w ↦ sims_full {m = memory c.args.store.now c.args.log.now c.args.at} (look_up_grows (window_zero n f m)) w.if-log-at.true
+  | then-log-at-via-else-log-at+then-store-slot-ne0 w ↦
+      sims_there (window_zero n f m) c.args.slot (memory c.args.store.now c.args.log.now c.args.at) w.if-log-at.false
+      (λ t s l x. zero_named l.bounded x.shown) (λ t s l x. x.slot) w.if-store-slot-ne0.true
+]
 
 pub store_key-requires : goal.store_key-requires
 store_key-requires c =
@@ -38,7 +38,7 @@ store_key-requires c =
 pub returns : goal.returns
 unfolding slot pulls
 returns c =
-    let w = rw c.bare.ensures at c.put_sum-end.ensures in
+    let w = rw (c.default.ensures.0, c.default.ensures.1.0, c.default.ensures.1.1) at c.put_sum-end.ensures in
     λ ns n f m.
     let m₀ = memory c.args.store.now c.args.log.now c.args.at in
     let k = window_zero n f m in

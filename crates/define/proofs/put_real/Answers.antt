@@ -20,13 +20,13 @@ neg_low l = omega arith
 
 pub returns-then-value-eq0 : goal.returns-then-value-eq0
 returns-then-value-eq0 c =
-    λ x k. rw (← zero_is x c.args.value (omega arith), k.leaf_list) (rw c.bare.ensures at c.put_sum.ensures)
+    λ x k. rw (← zero_is x c.args.value (omega arith), k.leaf_list) (rw (c.default.ensures.0, c.default.ensures.1.0, c.default.ensures.1.1) at c.put_sum.ensures)
 
 pub returns-then-n-value : goal.returns-then-n-value
 returns-then-n-value c =
     λ x k.
     let n = len_is x k.leaf_list in
-    rw (← above_is x c.args.value (omega arith) (omega arith), k.leaf_list) (rw c.bare-then-n-value.ensures at c.put_sum-then-n-value.ensures)
+    rw (← above_is x c.args.value (omega arith) (omega arith), k.leaf_list) (rw (c.default-then-n-value.ensures.0, c.default-then-n-value.ensures.1.0, c.default-then-n-value.ensures.1.1) at c.put_sum-then-n-value.ensures)
 
 pub overflow_add-only_if_sum : goal.overflow_add-only_if_sum
 overflow_add-only_if_sum c =
