@@ -49,12 +49,12 @@ pub fn shown_at(nodes: &[u32], at: usize) -> Shown
 {
     let node = number_at(nodes, at);
     let side = Side {
-        node: node,
+        node,
         offset: number_at(nodes, at + 1),
         limit: number_at(nodes, at + 2),
     };
     Shown {
-        side: side,
+        side,
         len: number_at(nodes, at + sizes::SIDE_LEN),
         first: nodes[row_at(node) + sizes::FIRST],
         window: number_at(nodes, at + sizes::SIDE_WINDOW),
@@ -67,12 +67,10 @@ pub fn join_at(nodes: &[u32], node: usize) -> Join
     ensures { result ≡ read_join nodes.now node }
 {
     let row = row_at(node);
-    let left = shown_at(nodes, row + sizes::LEFT);
-    let right = shown_at(nodes, row + sizes::RIGHT);
     Join {
-        node: node,
+        node,
         first: nodes[row + sizes::FIRST],
-        left: left,
-        right: right,
+        left: shown_at(nodes, row + sizes::LEFT),
+        right: shown_at(nodes, row + sizes::RIGHT),
     }
 }

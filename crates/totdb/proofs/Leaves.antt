@@ -6,10 +6,10 @@ use Prim.Native.Nat.{ℕ, suc, ◌+◌}
 use native.Mathlib.Omega.{arith}
 use lib.Dec.{eqb}
 use lib.ListN.{length}
+use Rattle.std.specs.Prelude.{Option, Some, None, is_some}
 use Rattle.totdb.specs.Nodes.{Node, leaf, join, any, leaf_of, known, leaf_count}
-use Rattle.totdb.specs.Leaves.{LeafEntry, leaves_from, leaf_table, is_found, look_further, lookup_in, lookup_leaf}
+use Rattle.totdb.specs.Leaves.{LeafEntry, leaves_from, leaf_table, found_at, not_found, is_found, look_further, lookup_in, lookup_leaf}
 use Rattle.totdb.specs.declared.LeafLookup.{LeafLookup}
-use Rattle.totdb.specs.declared.LeafLookup.TheVariants.{Found, Missing}
 use Rattle.totdb.specs.declared.Side.{Side}
 
 -- ---- one node more
@@ -55,26 +55,26 @@ leaf_table-join t ls o l r = leaves_join 0 t ls o l r
 -- ---- the lookup
 
 -- Older leaves are not looked at once the literal is found.
-pub found_stays : (es fs : List LeafEntry) (l n k : ℕ) → lookup_in fs l ≡ Found n k → lookup_in (es ++ fs) l ≡ Found n k
+pub found_stays : (es fs : List LeafEntry) (l n k : ℕ) → lookup_in fs l ≡ found_at n k → lookup_in (es ++ fs) l ≡ found_at n k
 unfolding lookup_in look_further
 found_stays [] fs l n k h = h
 found_stays (e ∷ es) fs l n k h = rw (found_stays es fs l n k h)
 
 found_one_more : (l : ℕ) (e : LeafEntry) (r : LeafLookup) → is_found (look_further l e r) ≡ (eqb l e.literal || is_found r)
-unfolding look_further is_found
-found_one_more l e (Found n k) = by (eqb l e.literal)
+unfolding look_further
+found_one_more l e r = by r.node (eqb l e.literal)
   where
-    by : (b : Bool) → true ≡ (b || true)
-    by true = refl
-    by false = refl
-found_one_more l e (Missing k) = by (eqb l e.literal)
-  where
-    by : (b : Bool) → is_found (elim b as (λ _. LeafLookup) [ true ↦ Found e.node (suc k) | false ↦ Missing (suc k) ]) ≡ (b || false)
-    by true = refl
-    by false = refl
+    by : (x : Option ℕ) (b : Bool) → is_some (elim x as (λ _. LeafLookup) [
+      | Some n ↦ record { node = x; looked_at = r.looked_at }
+      | None ↦ elim b as (λ _. LeafLookup) [ true ↦ found_at e.node (suc r.looked_at) | false ↦ not_found (suc r.looked_at) ]
+    ]).node ≡ (b || is_some x)
+    by (Some n) true = refl
+    by (Some n) false = refl
+    by None true = refl
+    by None false = refl
 
 known_from : (n : ℕ) (t : List Node) (l : ℕ) → known t l ≡ is_found (lookup_in (leaves_from n t) l)
-unfolding known any leaf_of leaves_from lookup_in is_found
+unfolding known any leaf_of leaves_from lookup_in
 known_from n [] l = refl
 known_from n (leaf m ∷ t) l =
     ap (λ (b : Bool). eqb l m || b) (known_from (suc n) t l) ∙ sym (found_one_more l (entry m n) (lookup_in (leaves_from (suc n) t) l))

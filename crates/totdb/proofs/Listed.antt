@@ -1,9 +1,10 @@
 -- The output list of a node, as the code fills its row.
 use mathlib.Core.Path.{◌≡◌, refl, sym, ap, ◌∙◌}
-use mathlib.Core.List.{List, [], ◌∷◌, ◌++◌, map, map-append}
+use mathlib.Core.List.{List, [], ◌∷◌, ◌++◌, map, map-append, append-nil}
 use Prim.Native.Nat.{ℕ, zero, suc, ◌+◌, ◌-◌, ◌*◌, ◌≤◌, ◌<◌}
 use native.Mathlib.Omega.{arith}
 use lib.ListN.{length, take, drop, replicate, set, length-map, length-append, length-replicate}
+use Rattle.std.proofs.lemmas.List.{take-replicate, drop-replicate}
 use lib.Seq.{set_at, append_snoc}
 use Rattle.sizes.specs.Sizes.{width}
 use Rattle.totdb.specs.Nodes.{range, from_first, output_row}
@@ -49,20 +50,31 @@ module _ (l : ℕ) where
   unfolding output_row
   row_length n h = length-append (listed n) (replicate (width - n) 0) ∙ rw (listed_length n, length-replicate {A = ℕ} (width - n) 0) (omega arith)
 
-  pub row_none : replicate width 0 ≡ output_row l 0
-  unfolding output_row range
-  row_none = refl
+  -- The first n outputs in a list of w numbers, with zeros after them.
+  abbrev pub row_of : ℕ → ℕ → List ℕ
+  row_of w n = listed n ++ replicate (w - n) 0
 
-  pub row_more : (n : ℕ) → n < width → set (output_row l n) n (l + 2 * n) ≡ output_row l (n + 1)
-  unfolding output_row from_first
-  row_more n h =
+  pub row_none : (w n : ℕ) → n ≤ w → (length (take n (replicate {A = ℕ} w 0)) ≡ n) × (take n (replicate {A = ℕ} w 0) ≡ row_of n 0)
+  unfolding range
+  row_none w n h = let e : n - 0 ≡ n = omega arith in rw (e, take-replicate {X = ℕ} n w 0 h) (length-replicate {A = ℕ} n 0, refl)
+
+  pub row_more : (w n : ℕ) → n < w → set (row_of w n) n (l + 2 * n) ≡ row_of w (n + 1)
+  unfolding from_first
+  row_more w n h =
       let e : n + 1 ≡ suc n = omega arith in
-      let d : width - n - 1 ≡ width - (n + 1) = omega arith in
+      let d : w - n - 1 ≡ w - (n + 1) = omega arith in
       let v : l + 2 * (1 + n - 1) ≡ l + 2 * n = omega arith in
       let more : listed (n + 1) ≡ listed n ++ ((l + 2 * n) ∷ []) =
       ap listed e ∙ ap (map (from_first l)) (range_snoc 1 n) ∙ map-append (from_first l) (range 1 n) ((1 + n) ∷ []) ∙ rw v in
-      ap (λ (z : List ℕ). set (listed n ++ z) n (l + 2 * n)) (replicate_cons (width - n) (omega arith))
-      ∙ set_at (listed n) 0 (replicate (width - n - 1) 0) (l + 2 * n) n (listed_length n)
+      ap (λ (z : List ℕ). set (listed n ++ z) n (l + 2 * n)) (replicate_cons (w - n) (omega arith))
+      ∙ set_at (listed n) 0 (replicate (w - n - 1) 0) (l + 2 * n) n (listed_length n)
       ∙ ap (λ (k : ℕ). listed n ++ (l + 2 * n) ∷ replicate k 0) d
-      ∙ sym (append_snoc (listed n) (l + 2 * n) (replicate (width - (n + 1)) 0))
-      ∙ ap (λ (z : List ℕ). z ++ replicate (width - (n + 1)) 0) (sym more)
+      ∙ sym (append_snoc (listed n) (l + 2 * n) (replicate (w - (n + 1)) 0))
+      ∙ ap (λ (z : List ℕ). z ++ replicate (w - (n + 1)) 0) (sym more)
+
+  -- The whole list at the front of a row of zeros.
+  pub row_done : (n i : ℕ) (items : List ℕ) → n ≤ width → i ≡ n → items ≡ row_of n i → items ++ drop n (replicate {A = ℕ} width 0) ≡ output_row l n
+  unfolding output_row
+  row_done n i items h e p =
+      let none : n - n ≡ 0 = omega arith in
+      rw (p, e, none, append-nil) (ap (λ (z : List ℕ). listed n ++ z) (drop-replicate {X = ℕ} n width 0))

@@ -7,7 +7,7 @@ use native.Mathlib.Decide.{ℕ_discrete}
 use native.Mathlib.Omega.{arith}
 use borrow.Author.Tests.{eq-eqb, ne_eqb}
 use lib.Dec.{eqb}
-use Rattle.totdb.specs.Nodes.{leaf, join, output, from_first, limited, length_over, limit_over, plain_over, plain_or, keyed, part}
+use Rattle.totdb.specs.Nodes.{leaf, join, output, from_first, limited, length_over, limit_over, plain_over, plain_or, keyed}
 use Rattle.totdb.specs.declared.Side.{Side}
 
 limited_set : (k n : ℕ) → 0 < k → limited k n ≡ k
@@ -112,7 +112,3 @@ join_outputs_lem ls o l r i h = omega arith
 pub leaf_output : (l : ℕ) → output (leaf l) 1 ≡ from_first l 1
 unfolding output from_first
 leaf_output l = omega arith
-
--- A part, by where it starts and how long it is.
-pub same_part : (l : List ℕ) {i n j m : ℕ} → i ≡ j → n ≡ m → part l i n ≡ part l j m
-same_part l e f = rw (e, f)

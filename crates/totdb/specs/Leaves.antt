@@ -1,9 +1,8 @@
 -- The leaves of a table of nodes in the order of their making, and the lookup of one by its literal (document 02, §4).
-use Rattle.std.specs.Prelude.{Bool, true, false, List, [], ◌∷◌, ℕ, suc, eqb}
+use Rattle.std.specs.Prelude.{Bool, true, false, List, [], ◌∷◌, ℕ, suc, eqb, Some, None, is_some}
 use Rattle.std.proofs.Math.Option.{Option, none, some}
 use Rattle.totdb.specs.Nodes.{Node, leaf, join}
 use Rattle.totdb.specs.declared.LeafLookup.{LeafLookup}
-use Rattle.totdb.specs.declared.LeafLookup.TheVariants.{Found, Missing}
 
 -- A leaf: its literal, and the number of its node.
 pub record LeafEntry : Type 0 where
@@ -22,28 +21,35 @@ leaf_table t = leaves_from 0 t
 
 -- ---- the lookup
 
+-- A lookup that found node n at the k-th leaf that it looked at, and one that looked at k leaves and found none.
+abbrev pub found_at : ℕ → ℕ → LeafLookup
+found_at n k = record { node = Some n; looked_at = k }
+
+abbrev pub not_found : ℕ → LeafLookup
+not_found k = record { node = None; looked_at = k }
+
 -- The node that a lookup found, and how many leaves it looked at.
 unfoldable pub node_found : LeafLookup → Option ℕ
-node_found (Found n k) = some n
-node_found (Missing k) = none
+node_found r = elim r.node [ Some n ↦ some n | None ↦ none ]
 
 unfoldable pub looked_at : LeafLookup → ℕ
-looked_at (Found n k) = k
-looked_at (Missing k) = k
+looked_at r = r.looked_at
 
-unfoldable pub is_found : LeafLookup → Bool
-is_found (Found n k) = true
-is_found (Missing k) = false
+abbrev pub is_found : LeafLookup → Bool
+is_found r = is_some r.node
 
 -- One more leaf is looked at, unless the literal was found among those made after it.
 unfoldable pub look_further : ℕ → LeafEntry → LeafLookup → LeafLookup
-look_further l e (Found n k) = Found n k
-look_further l e (Missing k) = elim (eqb l e.literal) [ true ↦ Found e.node (suc k) | false ↦ Missing (suc k) ]
+look_further l e r =
+    elim r.node [
+      | Some n ↦ r
+      | None ↦ elim (eqb l e.literal) [ true ↦ found_at e.node (suc r.looked_at) | false ↦ not_found (suc r.looked_at) ]
+    ]
 
 -- From the last of the leaves to the first.
 unfoldable pub lookup_in : List LeafEntry → ℕ → LeafLookup
 unfolding look_further
-lookup_in [] l = Missing 0
+lookup_in [] l = not_found 0
 lookup_in (e ∷ es) l = look_further l e (lookup_in es l)
 
 unfoldable pub lookup_leaf : List Node → ℕ → LeafLookup
