@@ -1,59 +1,54 @@
 -- Laws that the code's proofs cite: a reading as an item, and what one more turn of a loop leaves.
-use mathlib.Core.Path.{◌≡◌}
-use mathlib.Core.List.{List, [], ◌∷◌}
-use Prim.Native.Nat.{ℕ, ◌+◌, ◌-◌, ◌*◌, ◌≤◌, ◌<◌, suc}
+use mathlib.Core.Path.{◌≡◌, refl, sym, ap, ◌∙◌}
+use mathlib.Core.List.{List, [], ◌∷◌, map}
+use lib.ListN.{length, length-map}
+use Prim.Native.Nat.{ℕ, ◌+◌, ◌*◌, suc}
 use native.Mathlib.Omega.{arith}
 use borrow.Author.Tests.{ne_eqb}
-use Rattle.number.specs.declared.Reading.{Reading}
-use Rattle.number.specs.declared.Reading.TheVariants.{Number, Bad}
+use Rattle.std.specs.Prelude.{Option, Some, None}
+use Rattle.std.specs.Option.{unwrap_or}
+use Rattle.std.specs.List.{FoldsTo, range_with_len}
+use Rattle.std.specs.Iterator.{ActsAsOnTwo, FoldTurn, FoldsItems}
+use Rattle.std.proofs.iter.Yields.{nat_range_steps}
+use Rattle.std.proofs.lemmas.Iterator.{items_from_drains, YieldsList-from_range}
+use Rattle.std.proofs.lemmas.List.FromFn.{length-range_with_len}
+use denote.Param.Members.{Mut}
+use Rattle.number.specs.Number.{read_at}
 use Rattle.places.specs.declared.Item.{Item}
 use Rattle.places.specs.Walk.{item, read, item_at, after_number, skip, after_token, after_record, numbers_at}
 
--- ---- the number at a place
+-- ---- numbers in turn
 
-pub read_number : (n : ℕ) {q : Reading} {x e v f : ℕ} → q ≡ Number x e → v ≡ x → f ≡ e → item v f ≡ read n q
+read_is : (n : ℕ) (o : Option (ℕ × ℕ)) → item (unwrap_or o (0, n)).0 (unwrap_or o (0, n)).1 ≡ read n o
 unfolding read
-read_number n h i j = rw (h, i, j)
+read_is n (Some (x, e)) = refl
+read_is n None = refl
 
-pub read_bad : (n : ℕ) {q : Reading} {v f : ℕ} → q ≡ Bad → v ≡ 0 → f ≡ n → item v f ≡ read n q
-unfolding read
-read_bad n h i j = rw (h, i, j)
+pub item_is : (log : List ℕ) (at : ℕ) {o : Option (ℕ × ℕ)} {p : ℕ × ℕ} → o ≡ read_at log at → p ≡ unwrap_or o (0, length log) → item p.0 p.1 ≡ item_at log at
+item_is log at {o} e f = rw f (rw e (read_is (length log) (read_at log at)))
 
--- ---- a loop of k turns before its turn i
+pub numbers_end : (log : List ℕ) (k at : ℕ) → k ≡ 0 → numbers_at log k at ≡ []
+unfolding numbers_at
+numbers_end log k at h = rw h
 
-module _ (k i : ℕ) where
-  turn : i < k → k - i ≡ suc (k - (i + 1))
-  turn h = omega arith
+pub numbers_next : (log : List ℕ) (at : ℕ) {k m : ℕ} {x : Item} → x ≡ item_at log at → k ≡ suc m → numbers_at log k at ≡ x.value ∷ numbers_at log m x.end
+unfolding numbers_at
+numbers_next log at q h = rw (h, q)
 
-  done : k ≤ i → k - i ≡ 0
-  done h = omega arith
+-- ---- a fold that goes on from place to place is `skip`
 
-none_yet : (k : ℕ) → k - 0 ≡ k
-none_yet k = omega arith
-
-module _ (next : ℕ → ℕ) (k : ℕ) where
-  pub skip_all : (at : ℕ) → skip next (k - 0) at ≡ skip next k at
-  skip_all at = rw (none_yet k)
-
-  pub skip_more : (i at : ℕ) → i < k → skip next (k - (i + 1)) (next at) ≡ skip next (k - i) at
+module _ {F : Type 0} {g : Mut F (ℕ × (ℕ × Unit {0})) ℕ} {f : F} (next : ℕ → ℕ) (acts : ActsAsOnTwo g f (λ at _. next at)) where
+  skip_turns : (f' : F) (xs : List ℕ) (at r : ℕ) → FoldsTo {P = F × ℕ} (FoldTurn g) (f, at) xs (f', r) → r ≡ skip next (length xs) at
   unfolding skip
-  skip_more i at h = rw (turn k i h)
+  skip_turns f' [] at r e = sym (ap (λ (p : F × ℕ). p.1) e)
+  skip_turns f' (x ∷ xs) at r ((h, y), c, t) = let q = acts at x y h c in skip_turns f' xs (next at) r (rw (q.0, q.1) at t)
 
-  pub skip_none : (i at : ℕ) → k ≤ i → skip next (k - i) at ≡ at
-  unfolding skip
-  skip_none i at h = rw (done k i h)
-
-module _ (log : List ℕ) (k : ℕ) where
-  pub numbers_all : (at : ℕ) → numbers_at log (k - 0) at ≡ numbers_at log k at
-  numbers_all at = rw (none_yet k)
-
-  pub numbers_more : (i at : ℕ) → i < k → numbers_at log (k - i) at ≡ (item_at log at).value ∷ numbers_at log (k - (i + 1)) (item_at log at).end
-  unfolding numbers_at
-  numbers_more i at h = rw (turn k i h)
-
-  pub numbers_none : (i at : ℕ) → k ≤ i → numbers_at log (k - i) at ≡ []
-  unfolding numbers_at
-  numbers_none i at h = rw (done k i h)
+pub skip_range : {F : Type 0} {g : Mut F (ℕ × (ℕ × Unit {0})) ℕ} {f : F} (next : ℕ → ℕ) (k at r : ℕ) → ActsAsOnTwo g f (λ at _. next at)
+    → FoldsItems nat_range_steps g (record { start = 0; end = k }) f at r → r ≡ skip next k at
+skip_range next k at r acts (xs, f', d, turns) =
+    let is : map (λ x. x) xs ≡ range_with_len 0 k = items_from_drains xs (d.1.0, d.1.1, λ _. (d.0, d.1.2)) (YieldsList-from_range 0 k k refl (omega arith)) in
+    let n : length xs ≡ k = sym (length-map xs (λ x. x)) ∙ ap length is ∙ length-range_with_len 0 k in
+    rw n at (skip_turns next acts f' xs at r turns)
 
 -- ---- the place after a token and after a record, by cases
 

@@ -1,18 +1,16 @@
 -- The clauses of a log found by places, as the code reads them: any bytes are read to their end.
-use Rattle.std.specs.Prelude.{Bool, true, false, cond, List, [], ◌∷◌, map, ℕ, zero, suc, ◌+◌, ◌*◌, ◌/◌, eqb, ltb, length}
+use Rattle.std.specs.Prelude.{Bool, true, false, cond, Option, Some, None, List, [], ◌∷◌, map, ℕ, zero, suc, ◌+◌, ◌*◌, ◌/◌, eqb, ltb, length}
 use Rattle.sizes.specs.Sizes.{most_bytes}
 use Rattle.number.specs.Number.{read_at}
-use Rattle.number.specs.declared.Reading.{Reading}
-use Rattle.number.specs.declared.Reading.TheVariants.{Number, Bad}
 use Rattle.places.specs.declared.Item.{Item}
 
 abbrev pub item : ℕ → ℕ → Item
 item x e = record { value = x; end = e }
 
 -- What a place reads as, in a log of n bytes: bytes that are no number are 0, to the log's end.
-unfoldable pub read : ℕ → Reading → Item
-read n (Number x e) = item x e
-read n Bad = item 0 n
+unfoldable pub read : ℕ → Option (ℕ × ℕ) → Item
+read n (Some (x, e)) = item x e
+read n None = item 0 n
 
 abbrev pub item_at : List ℕ → ℕ → Item
 item_at log at = read (length log) (read_at log at)

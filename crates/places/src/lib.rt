@@ -3,10 +3,8 @@
 
 ghost use Rattle.std.specs.Prelude.{◌≡◌, cond, [], ◌∷◌, ◌++◌, ◌+◌, ◌*◌, ◌≤◌, ◌<◌, length, take};
 ghost use Rattle.sizes.specs.Sizes.{most_bytes};
-ghost use Rattle.places.specs.Walk;
-ghost use Rattle.places.specs.Walk.{item_at, after_number, after_token, after_record, is_clause, count_place, clause_places};
-
-use number::Reading;
+ghost use Rattle.std.specs.Iterator.{YieldsFirst, item_count};
+ghost use Rattle.places.specs.Walk.{item_at, numbers_at, clause_at, skip, after_number, after_token, after_record, is_clause, count_place, clause_places};
 
 // The clauses of a log are no more than this: a clause takes three bytes, or is cut off by the end.
 pub const MOST_CLAUSES: usize = (sizes::MOST_BYTES + 2) / 3;
@@ -22,26 +20,50 @@ pub struct Item {
 pub fn number_at(log: &[u8], at: usize) -> Item
     ensures { result ≡ item_at log.now at }
 {
-    let reading = number::read(log, at);
-    match reading {
-        Reading::Number(x, end) => Item { value: x, end: end },
-        Reading::Bad => Item {
-            value: 0,
-            end: log.len(),
-        },
+    let (value, end) = number::read(log, at).unwrap_or((0, log.len()));
+    Item { value, end }
+}
+
+// So many numbers of a log, from a place on.
+#[derive(Clone, Copy)]
+pub struct Numbers<'a> {
+    log: &'a [u8],
+    left: u32,
+    at: usize,
+}
+
+impl<'a> Iterator for Numbers<'a> {
+    type Item = u32;
+
+    ghost next_gives = { YieldsFirst (λ n. numbers_at n.log.now n.left n.at) };
+
+    ghost remaining = { item_count (λ n. numbers_at n.log.now n.left n.at) };
+
+    fn next(&mut self) -> Option<u32> {
+        self.left = self.left.checked_sub(1)?;
+        let x = number_at(self.log, self.at);
+        self.at = x.end;
+        Some(x.value)
+    }
+}
+
+// The literals of the clause whose count is at a place.
+pub fn literals(log: &[u8], place: usize) -> Numbers<'_>
+    ensures { numbers_at result.log.now result.left result.at ≡ clause_at log.now place }
+{
+    let count = number_at(log, place);
+    Numbers {
+        log,
+        left: count.value,
+        at: count.end,
     }
 }
 
 // The place after k numbers.
-fn skip(log: &[u8], k: u64, at: usize) -> usize
-    ensures { result ≡ Walk.skip (after_number log.now) k at }
+fn after_numbers(log: &[u8], k: u64, at: usize) -> usize
+    ensures { result ≡ skip (after_number log.now) k at }
 {
-    let mut end = at;
-    for i in 0..k {
-        let x = number_at(log, end);
-        end = x.end;
-    }
-    end
+    (0..k).fold(at, |at, _| number_at(log, at).end)
 }
 
 // The place after a token.
@@ -49,25 +71,18 @@ fn after_token(log: &[u8], at: usize) -> usize
     ensures { result ≡ after_token log.now at }
 {
     let t = number_at(log, at);
-    if t.value == 2 {
+    // Tokens 2 (add) and 4 (saturate) stand alone.
+    if t.value == 2 || t.value == 4 {
         return t.end;
     }
-    if t.value == 4 {
-        return t.end;
-    }
-    let x = number_at(log, t.end);
-    x.end
+    number_at(log, t.end).end
 }
 
 // The place after k tokens.
-fn skip_tokens(log: &[u8], k: u32, at: usize) -> usize
-    ensures { result ≡ Walk.skip (after_token log.now) k at }
+fn after_tokens(log: &[u8], k: u32, at: usize) -> usize
+    ensures { result ≡ skip (after_token log.now) k at }
 {
-    let mut end = at;
-    for i in 0..k {
-        end = after_token(log, end);
-    }
-    end
+    (0..k).fold(at, |at, _| after_token(log, at))
 }
 
 // The place after a record.
@@ -76,17 +91,13 @@ fn after_record(log: &[u8], at: usize) -> usize
 {
     let kind = number_at(log, at);
     let first = number_at(log, kind.end);
-    if kind.value == 2 {
-        return skip_tokens(log, first.value, first.end);
-    }
     let second = number_at(log, first.end);
-    if kind.value == 1 {
-        return skip(log, 2 * second.value as u64 + 1, second.end);
+    match kind.value {
+        1 => after_numbers(log, 2 * u64::from(second.value) + 1, second.end),
+        2 => after_tokens(log, first.value, first.end),
+        3 => after_numbers(log, u64::from(second.value), second.end),
+        _ => after_numbers(log, u64::from(first.value), first.end),
     }
-    if kind.value == 3 {
-        return skip(log, second.value as u64, second.end);
-    }
-    skip(log, first.value as u64, first.end)
 }
 
 // Adds the place of the clause of the record at a place, if it has one, to n others. What stands after them is open.

@@ -21,9 +21,8 @@ pub fn word(out: &mut [u8], at: usize, w: &[u8]) -> usize
     ensures { Prints (page out.old at) w.now (page out.new result) }
 {
     let mut end = at;
-    for i in 0..w.len() {
-        let b = w[i];
-        end = put(out, end, b);
+    for b in w {
+        end = put(out, end, *b);
     }
     end
 }

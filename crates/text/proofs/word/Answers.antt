@@ -4,11 +4,11 @@ use lib.Seq.{take-suc, take_all}
 use Rattle.text.proofs.Laws.{nothing, after}
 use Rattle.text.proofs.word.Goals as goal
 
-pub loop-i-init : goal.loop-i-init
-loop-i-init c = nothing
+pub loop-b-init : goal.loop-b-init
+loop-b-init c = nothing
 
-pub loop-i-preserved : goal.loop-i-preserved
-loop-i-preserved c = rw (add-one, take-suc c.args.w.now c.loop-i.i 0 (omega arith)) (after c.loop-i.invariant c.put-end.ensures)
+pub loop-b-preserved : goal.loop-b-preserved
+loop-b-preserved c = rw (add-one, take-suc c.args.w.now c.loop-b.b-index 0 (omega arith)) (after c.loop-b.invariant c.put-end.ensures)
 
 pub returns : goal.returns
-returns c = rw (take_all c.loop-i.i c.args.w.now c.loop-i-test.false) at c.loop-i.invariant
+returns c = rw (take_all c.loop-b.b-index c.args.w.now c.loop-b-test.false) at c.loop-b.invariant

@@ -1,7 +1,7 @@
--- `text::word` meets its contract: after i turns the first i bytes are written.
+-- `text::word` meets its contract: after n turns the first n bytes are written.
 use lib.ListN.{take}
 use Rattle.text.specs.Text.{page, Prints}
 use Rattle.text.proofs.word.Given as goal
 
-abbrev pub invariant-loop-i : goal.invariant-loop-i
-invariant-loop-i l = Prints (page l.initial.out l.at) (take l.i l.w) (page l.out l.end)
+abbrev pub invariant-loop-b : goal.invariant-loop-b
+invariant-loop-b l = Prints (page l.initial.out l.at) (take l.b-index l.w) (page l.out l.end)
