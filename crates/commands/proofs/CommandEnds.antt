@@ -19,7 +19,7 @@ use Rattle.player.specs.Refusals.{number_of}
 use Rattle.player.specs.declared.Command.{Command}
 use Rattle.player.specs.declared.Refusal.{Refusal}
 use Rattle.player.proofs.Formed.{formed_act}
-use Rattle.player.proofs.Refusal.{play_stops, play_goes, play_over}
+use Rattle.player.proofs.Plays.{play_stops, play_goes, play_over}
 use Rattle.commands.specs.Standing.{Standing, Reported, Played, went, stopped, end_of}
 use Rattle.commands.specs.declared.Totals.{Totals}
 

@@ -23,7 +23,7 @@ use Rattle.player.specs.declared.Refusal.{Refusal}
 use Rattle.player.proofs.Formed.{formed_act, head_low}
 use Rattle.player.proofs.Sound.{JoinFits, join_fits, side_leaves-length, plain_side_len}
 use Rattle.player.proofs.Tree.{few_nodes_lem, few_variables, treed_act}
-use Rattle.player.proofs.Refusal.{play_goes}
+use Rattle.player.proofs.Plays.{play_goes}
 use Rattle.commands.specs.Standing.{Standing, Room, Played, went}
 use Rattle.commands.specs.declared.Totals.{Totals}
 use Rattle.commands.proofs.CommandEnds.{fits}
