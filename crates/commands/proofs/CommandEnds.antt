@@ -1,5 +1,5 @@
 -- The end of a command: accepted with all that it wrote, or refused with the log as it was up to its length.
-use mathlib.Core.Path.{◌≡◌, refl, sym, ◌∙◌, subst}
+use mathlib.Core.Path.{◌≡◌, sym, ◌∙◌, subst}
 use mathlib.Core.List.{List}
 use Prim.Native.Nat.{ℕ, ◌≤◌, ◌<◌}
 use native.Mathlib.Omega.{arith}
@@ -24,20 +24,7 @@ use Rattle.commands.specs.Standing.{Standing, Reported, Played, went, stopped, e
 use Rattle.commands.specs.declared.Totals.{Totals}
 
 refusal_numbered : (r : Refusal) → 0 < number_of r
-unfolding number_of
-refusal_numbered Refusal.TooLong = omega arith
-refusal_numbered Refusal.NoNumber = omega arith
-refusal_numbered Refusal.Head = omega arith
-refusal_numbered Refusal.Closed = omega arith
-refusal_numbered Refusal.NoCommand = omega arith
-refusal_numbered Refusal.LeafVariable = omega arith
-refusal_numbered Refusal.Leaf = omega arith
-refusal_numbered Refusal.NoNode = omega arith
-refusal_numbered Refusal.NodeInUse = omega arith
-refusal_numbered Refusal.Window = omega arith
-refusal_numbered Refusal.Value = omega arith
-refusal_numbered Refusal.Direction = omega arith
-refusal_numbered Refusal.LogFull = omega arith
+refusal_numbered = grind arith
 
 exact_fits : {c : ℕ} {t : List Node} {store log : List ℕ} {a : ℕ} {s : State} → Exact c t (memory store log a) s → length (bytes s.log) ≤ c
 exact_fits {log = log} {a = a} x = omega (arith, content_length log a x.logged.is, open_log x, x.logged.size)
@@ -99,4 +86,4 @@ module _ {h : Head} {c : ℕ} {ns store log : List ℕ} {z : Totals} {s : State}
             })
         by (over x) =
             let q : e ≡ Err Refusal.LogFull = is ∙ rw (lt-ltb (length log') a (omega (arith, x.size, x.past))) in
-            stopped Refusal.LogFull (unfold number_of in play_over h c k s asked x.more) q (kept log' a on)
+            stopped Refusal.LogFull (play_over h c k s asked x.more) q (kept log' a on)

@@ -107,7 +107,13 @@ fn end(length: usize, t: Totals, at: usize, step: u32, clauses: u32) -> Result<T
 }
 
 // Questions 8, 11 and 12.
-fn ask_request(nodes: &[u32], count: usize, node: usize, value: usize, direction: u32) -> Result<(), Refusal>
+fn ask_request(
+    nodes: &[u32],
+    count: usize,
+    node: usize,
+    value: usize,
+    direction: u32,
+) -> Result<(), Refusal>
     requires { (t : List Node) × Table nodes.now t × (length t ≡ count) }
     ensures { (h : Head) (t : List Node) → Table nodes.now t → length t ≡ count
         → refused_by result ≡ first_no (questions h t (Command.Request node value direction)) }

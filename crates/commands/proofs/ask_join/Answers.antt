@@ -2,20 +2,17 @@
 use Rattle.std.proofs.Common.{arith}
 use mathlib.Core.Path.{sym, ◌∙◌}
 use mathlib.Core.Bool.{true, false}
-use Rattle.player.specs.Refusals.{number_of}
 use Rattle.commands.proofs.Questions.{join_left, join_right, join_same, join_left_taken, join_right_taken, join_left_out, join_right_out, join_fits_both, side_fits_lem}
 use Rattle.commands.proofs.ask_join.Goals.{then-count-l-via-then-count-l, then-count-l-via-else-count-l+then-count-r, then-l-r-via-then-l-r, then-l-r-via-else-l-r+then-taken, then-l-r-via-else-l-r+else-taken+then-taken-2, then-not-fits-via-then-not-fits, then-not-fits-via-else-not-fits+then-not-fits-2}
 use Rattle.commands.proofs.ask_join.Goals as goal
 
 pub returns-then-count-l : goal.returns-then-count-l
-unfolding number_of
 returns-then-count-l c = λ h t r e. elim c.then-count-l.branch [
   | then-count-l-via-then-count-l w ↦ sym (join_left h t c.args.l c.args.r (omega (arith, w.if-count-l.true, e)))
   | then-count-l-via-else-count-l+then-count-r w ↦ sym (join_right h t c.args.l c.args.r (omega (arith, w.if-count-l.false, e)) (omega (arith, w.if-count-r.true, e)))
 ]
 
 pub returns-then-l-r : goal.returns-then-l-r
-unfolding number_of
 returns-then-l-r c = λ h t r e. elim c.then-l-r.branch [
   | then-l-r-via-then-l-r w ↦ sym (join_same h t c.args.l c.args.r (omega arith) (omega arith) w.if-l-r.true)
   | then-l-r-via-else-l-r+then-taken w ↦
@@ -26,7 +23,6 @@ returns-then-l-r c = λ h t r e. elim c.then-l-r.branch [
 ]
 
 pub returns-then-not-fits : goal.returns-then-not-fits
-unfolding number_of
 returns-then-not-fits c = λ h t r e. elim c.then-not-fits.branch [
   | then-not-fits-via-then-not-fits w ↦
       sym (join_left_out h t c.args.l c.args.r (omega arith) (omega arith) c.if-l-r.false (sym (c.taken.ensures t r (omega arith)) ∙ c.if-taken.false)

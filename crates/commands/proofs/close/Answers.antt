@@ -1,4 +1,3 @@
-use Rattle.std.proofs.Common.{arith}
 use Rattle.commands.proofs.Writes.{listed, close_ends}
 use Rattle.commands.proofs.close.Goals as goal
 

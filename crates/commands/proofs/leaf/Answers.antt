@@ -2,7 +2,6 @@ use Rattle.std.proofs.Common.{arith}
 use mathlib.Core.Path.{sym, ◌∙◌, refl}
 use Prim.Native.Nat.{◌<◌}
 use Rattle.pb.specs.Sum.{variable}
-use Rattle.player.specs.Refusals.{number_of}
 use Rattle.player.specs.declared.Command.{Command}
 use Rattle.player.specs.declared.Refusal.{Refusal}
 use Rattle.player.proofs.Lengths.{leaves_few, leaves_full}
@@ -13,7 +12,6 @@ use Rattle.commands.proofs.leaf.Goals.{then-known-2-via-then-known-2, then-known
 use Rattle.commands.proofs.leaf.Goals as goal
 
 pub returns-then-first_variable-literal : goal.returns-then-first_variable-literal
-unfolding number_of
 returns-then-first_variable-literal c =
     λ h p store log s e st room.
     refused_early st (Command.Leaf c.args.literal) Refusal.LeafVariable
@@ -26,7 +24,6 @@ returns-then-known c =
     leaf_there st c.args.literal (leaf_known h s.nodes c.args.literal (unfold variable in omega arith) there) there _ refl
 
 pub returns-then-known-2 : goal.returns-then-known-2
-unfolding number_of
 returns-then-known-2 c =
     λ h p store log s e st room.
     let new = sym (c.known.ensures s.nodes st.table (sym st.leaves)) ∙ c.if-known.false in
