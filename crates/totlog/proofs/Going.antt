@@ -14,7 +14,7 @@ use Rattle.player.specs.Script.{Commands, closes, read_commands, stop, before}
 use Rattle.player.specs.declared.Command.{Command}
 use Rattle.player.specs.declared.CommandReading.{CommandReading}
 use Rattle.player.proofs.NodeBytes.{Took, took_on}
-use Rattle.player.proofs.Refusal.{play_refused, plays_done, plays_ended, plays_accepted, plays_refused}
+use Rattle.player.proofs.Plays.{play_refused, plays_done, plays_ended, plays_accepted, plays_refused}
 use Rattle.player.proofs.Tree.{few_nodes_lem}
 use Rattle.commands.specs.Standing.{Standing, Room, Reported, Played, went, stopped}
 use Rattle.commands.specs.declared.CommandEnd.{CommandEnd}

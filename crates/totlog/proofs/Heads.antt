@@ -17,7 +17,7 @@ use Rattle.player.specs.Places.{head_at, with_number}
 use Rattle.player.specs.Player.{Outcome, outcome, head_fits, played, play_script, refused_at_head}
 use Rattle.player.specs.declared.HeadReading.{HeadReading}
 use Rattle.player.proofs.Places.{headed, script_head}
-use Rattle.player.proofs.Refusal.{played_true, played_false, script_true, script_false, script_headless}
+use Rattle.player.proofs.Plays.{played_true, played_false, script_true, script_false, script_headless}
 use Rattle.totlog.specs.Entry.{answer_of, commands_from, played_from, Tells}
 use Rattle.answer.specs.declared.Answer.{Answer}
 
