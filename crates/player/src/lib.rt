@@ -1,5 +1,5 @@
-// A script read at a place. `specs/Script.antt` says what its bytes are, `specs/Places.antt` what
-// stands at a place.
+// A script read at a place, and why one is refused. `specs/Script.antt` says what its bytes are,
+// `specs/Places.antt` what stands at a place, `specs/Refusals.antt` which number a refusal has.
 #![tactic(auto)]
 
 ghost use Rattle.std.specs.Prelude.{◌≡◌, ◌≤◌, length};
