@@ -19,12 +19,10 @@ use Rattle.player.specs.Refusals.{number_of}
 use Rattle.player.specs.declared.Command.{Command}
 use Rattle.player.specs.declared.Refusal.{Refusal}
 use Rattle.player.proofs.Formed.{formed_act}
+use Rattle.player.proofs.Refusals.{number_some}
 use Rattle.player.proofs.Plays.{play_stops, play_goes, play_over}
 use Rattle.commands.specs.Standing.{Standing, Reported, Played, went, stopped, end_of}
 use Rattle.commands.specs.declared.Totals.{Totals}
-
-refusal_numbered : (r : Refusal) → 0 < number_of r
-refusal_numbered = grind arith
 
 exact_fits : {c : ℕ} {t : List Node} {store log : List ℕ} {a : ℕ} {s : State} → Exact c t (memory store log a) s → length (bytes s.log) ≤ c
 exact_fits {log = log} {a = a} x = omega (arith, content_length log a x.logged.is, open_log x, x.logged.size)
@@ -50,7 +48,7 @@ module _ {h : Head} {c : ℕ} {ns store log : List ℕ} {z : Totals} {s : State}
   -- One of questions 6 to 12 is answered no, and nothing is changed.
   pub refused_early : (k : Command) (r : Refusal) → number_of r ≡ first_no (questions h s.nodes k) → (e : Result Totals Refusal) → e ≡ Err r
       → Played h c k s z ns store log e
-  refused_early k r q e a = stopped r (play_stops h c k s (number_of r) (refusal_numbered r) (sym q)) a reported
+  refused_early k r q e a = stopped r (play_stops h c k s (number_of r) (number_some r) (sym q)) a reported
 
   -- A command that changes no node, and came to the place a, with the step and the clauses that the store has.
   module _ (k : Command) (asked : first_no (questions h s.nodes k) ≡ 0) (same_nodes : (act k s).nodes ≡ s.nodes)
