@@ -174,7 +174,12 @@ pub fn put_clause(log: &mut [u8], at: usize, operands: Operands, c: Clause) -> u
         (numbers (derivation (sequence operands)) ++ clause_numbers c)
         (buffer log.new result) }
 {
-    record::put_record::<CLAUSE_ROOM, _>(log, at, |log, at| push_both(log, at, operands, c))
+    record::put_record::<CLAUSE_ROOM, _, _>(
+        log,
+        at,
+        operands,
+        |operands, log, at| push_both(log, at, operands, c),
+    )
 }
 
 // ---- a clause with both parts, whose step adds up three steps, as in most: the records are those of `push_both`. They are

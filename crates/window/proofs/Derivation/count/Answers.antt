@@ -1,0 +1,12 @@
+-- `window::Derivation::count` meets its contract: the additions are one fewer than the other values.
+use Rattle.std.proofs.Common.{arith}
+use Rattle.window.proofs.Windows.{tokens_length}
+use Rattle.window.proofs.Derivation.count.Goals as goal
+
+pub returns-then-self : goal.returns-then-self
+returns-then-self c = λ at_step n x.
+    rw (tokens_length c.args.self.only_if at_step n x c.args.self.value c.args.self.window.offset c.args.self.window.len c.args.self.above c.args.self.below, c.if-self.true) (omega arith)
+
+pub returns : goal.returns
+returns c = λ at_step n x.
+    rw (tokens_length c.args.self.only_if at_step n x c.args.self.value c.args.self.window.offset c.args.self.window.len c.args.self.above c.args.self.below, c.if-self.false) (omega arith)
