@@ -6,6 +6,7 @@ use mathlib.Core.List.{List, [], ◌∷◌}
 use Prim.Native.Nat.{ℕ, zero, suc, ◌+◌, ◌≤◌, ◌<◌}
 use native.Mathlib.Decide.{dec_le}
 use native.Mathlib.Omega.{arith}
+use borrow.Author.Tests.{leb-true, leb-false, ltb-true, ltb-false}
 use lib.ListN.{length, get_or}
 use Rattle.sizes.specs.Sizes.{width, store_at}
 use Rattle.pb.specs.Sum.{neg}
@@ -30,7 +31,8 @@ use Rattle.define.specs.Lookups.{RealOf, SideIn}
 use Rattle.define.proofs.Slots.{real_named}
 use Rattle.define.proofs.SideLooks.{plain_value}
 use Rattle.clauses.specs.Firsts.{real_step, window_step, FirstsOf}
-use Rattle.clauses.specs.Joins.{JoinIn, ClauseIn, SideReach, SideRoom, ClauseReach, clause_part}
+use Rattle.clauses.specs.declared.Split.{Split}
+use Rattle.clauses.specs.Joins.{JoinIn, ClauseIn, SideReach, SideRoom, ClauseReach, ClauseValue, clause_part, has_part}
 use Rattle.clauses.proofs.Firsts.{real_read, window_read}
 
 -- ---- sides
@@ -80,15 +82,15 @@ module _ {t : List Node} {x : Join} where
   last_literal_lem {v} i =
       ap (λ (first : ℕ). from_first first v) i.of.first ∙ sym (from_first_lem (node_at t x.node) v i.above i.within)
 
-  module _ {v i j : ℕ} {b : Bool} (k : ClauseIn t x v i j b) where
-    pub left_in : SideIn t x.left i
+  module _ {z : Split} (k : ClauseIn t x z) where
+    pub left_in : SideIn t x.left z.left
     left_in = record { shown = k.of.of.left; value = k.left.top }
 
-    pub right_in : SideIn t x.right j
+    pub right_in : SideIn t x.right z.right
     right_in = record { shown = k.of.of.right; value = k.right.top }
 
     module _ (bd : Bounded t) where
-      pub this_in : RealOf t x.node v
+      pub this_in : RealOf t x.node z.value
       this_in =
           let f = join_fits bd k.of.of in
           let l = (side_inside bd left_in.shown.of).2 in
@@ -99,7 +101,7 @@ module _ {t : List Node} {x : Join} where
             value = omega (arith, k.of.within);
           }
 
-      pub clause_reach : (store : List ℕ) → store_at (length t) ≤ length store → ClauseReach store x v i j b
+      pub clause_reach : (store : List ℕ) → store_at (length t) ≤ length store → ClauseReach store x z
       clause_reach store room =
           let h = k.of.of.there in
           record {
@@ -137,6 +139,12 @@ unfolding neg_part
 neg_one t s zero h = absurd (omega arith)
 neg_one t s (suc a) h = refl
 
+-- A literal that is there is at a value from 1 up to the side's length.
+pub part_there : {q : Bool} {p i : ℕ} → ClauseValue q p i → has_part q p i ≡ true → (1 ≤ i) × (i ≤ p)
+unfolding has_part
+part_there {q = true} k h = (k.above refl, leb-true _ _ h)
+part_there {q = false} k h = (ltb-true 0 _ h, k.below refl)
+
 pub keyed_low : {s : Shown} {a : ℕ} → SideReach s a → plain_or s.side.offset s.side.limit true false ≡ true → keyed s.side a ≤ width + 1
 keyed_low {s} {a} r p = omega (arith, plain_keyed s.side p a, r.short, r.value)
 
@@ -150,7 +158,7 @@ keyed_in {s} {a} r = by (dec_le a 0)
     by (no p) = let e = keyed_above s.side a (omega arith) in (λ h. omega arith, omega (arith, r.short, r.value))
 
 module _ {t : List Node} (b : Bounded t) {s : Shown} {a : ℕ} (i : SideIn t s a) where
-  pub only_absent : s.len < a → [] ≡ clause_part true t s.side a
+  only_absent : s.len < a → [] ≡ clause_part true t s.side a
   unfolding clause_part
   only_absent h = pos_none t s.side a (omega (arith, i.shown.length))
 
@@ -158,9 +166,14 @@ module _ {t : List Node} (b : Bounded t) {s : Shown} {a : ℕ} (i : SideIn t s a
   unfolding clause_part
   only_literal h g = rw (side_literal b a i.shown h g) (pos_one t s.side a (omega (arith, i.shown.length)))
 
-  pub if_absent : a ≡ 0 → [] ≡ clause_part false t s.side a
+  if_absent : a ≡ 0 → [] ≡ clause_part false t s.side a
   unfolding clause_part neg_part
   if_absent e = rw e
+
+  pub part_absent : (q : Bool) → has_part q s.len a ≡ false → [] ≡ clause_part q t s.side a
+  unfolding has_part
+  part_absent true h = only_absent (leb-false a s.len h)
+  part_absent false h = if_absent (omega (arith, ltb-false 0 a h))
 
   pub if_literal : 1 ≤ a → a ≤ s.len → neg (from_first s.first (s.side.offset + a)) ∷ [] ≡ clause_part false t s.side a
   unfolding clause_part

@@ -26,6 +26,7 @@ use Rattle.define.proofs.Simulates.{sims_full}
 use Rattle.define.proofs.Slots.{Named, real_named, window_named}
 use Rattle.define.proofs.Windows.{window_of, window_slots}
 use Rattle.clauses.specs.Firsts.{has_first, side_stored, sides_stored}
+use Rattle.clauses.specs.declared.Split.{Split}
 use Rattle.clauses.specs.Joins.{ClauseIn, clause_of}
 use Rattle.clauses.proofs.Written.{sims_looks}
 
@@ -101,13 +102,14 @@ module _ {ns : List ℕ} (s : Shown) (a : ℕ) (d : Direction) (m : Memory) wher
 -- ---- a clause
 
 -- The sides look up nothing, and the value itself what it may.
-pub sims_this : {ns : List ℕ} {x : Join} {v i j : ℕ} {b : Bool} {m n : Memory} → sides_stored m.store x i j ≡ true
-    → Simulates ns (λ t u. RealOf t x.node v) (λ t u. look_up t (real x.node v) u) m n
-    → Simulates ns (λ t u. ClauseIn t x v i j b) (λ t u. each (look_up t) (looks_of t (clause_of t x v i j b)) u) m n
+pub sims_this : {ns : List ℕ} {x : Join} {z : Split} {m n : Memory} → sides_stored m.store x z.left z.right ≡ true
+    → Simulates ns (λ t u. RealOf t x.node z.value) (λ t u. look_up t (real x.node z.value) u) m n
+    → Simulates ns (λ t u. ClauseIn t x z) (λ t u. each (look_up t) (looks_of t (clause_of t x z)) u) m n
 unfolding sides_stored
-sims_this {x = x} {v} {i} {j} {b} {m} h d =
-    let both = and_true (side_stored m.store x.left i) _ h in
-    sims_looks (sims_stored_side x.left i (direction (not b)) m both.0) (sims_stored_side x.right j (direction (not b)) m both.1) d
+sims_this {x = x} {z} {m} h d =
+    let both = and_true (side_stored m.store x.left z.left) _ h in
+    let side = direction (not z.only_if) in
+    sims_looks (sims_stored_side x.left z.left side m both.0) (sims_stored_side x.right z.right side m both.1) d
 
 pub sims_stored_real : {ns : List ℕ} {n v : ℕ} {m : Memory} → has_first m.store (store_at n + v) ≡ true
     → Simulates ns (λ t u. RealOf t n v) (λ t u. look_up t (real n v) u) m m

@@ -32,6 +32,7 @@ use Rattle.define.proofs.Simulates.{Grows, grown, sims_open, sims_then, sims_und
 use Rattle.define.proofs.Slots.{slot_inside}
 use Rattle.define.proofs.Written.{Took, fits, past, took}
 use Rattle.clauses.specs.Firsts.{FirstsOf, SideRead}
+use Rattle.clauses.specs.declared.Split.{Split}
 use Rattle.clauses.specs.Joins.{ClauseIn, clause_of}
 use Rattle.clauses.proofs.Joins.{left_in, right_in, this_in}
 
@@ -153,40 +154,40 @@ clause_puts t k u this left right c et el er ek es x =
 
 -- ---- a clause after its lookups
 
-looks_is : (x : Join) (v i j : ℕ) (b : Bool) (t : List Node) (s : State)
-    → look_up t (real x.node v)
-    (each (look_up t) (key_of (side_def t x.right.side j (direction (not b))))
-    (each (look_up t) (key_of (side_def t x.left.side i (direction (not b)))) s))
-    ≡ each (look_up t) (looks_of t (clause_of t x v i j b)) s
+looks_is : (x : Join) (z : Split) (t : List Node) (s : State)
+    → look_up t (real x.node z.value)
+    (each (look_up t) (key_of (side_def t x.right.side z.right (direction (not z.only_if))))
+    (each (look_up t) (key_of (side_def t x.left.side z.left (direction (not z.only_if)))) s))
+    ≡ each (look_up t) (looks_of t (clause_of t x z)) s
 unfolding looks_of definition clause_of each flat_map
-looks_is x v i j b t s =
-    let left = key_of (side_def t x.left.side i (direction (not b))) in
-    let right = key_of (side_def t x.right.side j (direction (not b))) in
-    let this = real x.node v ∷ [] in
-    rw (real_key x.node v (direction b), each_append (look_up t) left (right ++ this) s, each_append (look_up t) right this (each (look_up t) left s))
+looks_is x z t s =
+    let left = key_of (side_def t x.left.side z.left (direction (not z.only_if))) in
+    let right = key_of (side_def t x.right.side z.right (direction (not z.only_if))) in
+    let this = real x.node z.value ∷ [] in
+    rw (real_key x.node z.value (direction z.only_if), each_append (look_up t) left (right ++ this) s, each_append (look_up t) right this (each (look_up t) left s))
 
-module _ {x : Join} {v i j : ℕ} {b : Bool} where
+module _ {x : Join} {z : Split} where
   pub sims_looks : {ns : List ℕ} {m n p q : Memory}
-      → Simulates ns (λ t u. SideIn t x.left i) (λ t u. each (look_up t) (key_of (side_def t x.left.side i (direction (not b)))) u) m n
-      → Simulates ns (λ t u. SideIn t x.right j) (λ t u. each (look_up t) (key_of (side_def t x.right.side j (direction (not b)))) u) n p
-      → Simulates ns (λ t u. RealOf t x.node v) (λ t u. look_up t (real x.node v) u) p q
-      → Simulates ns (λ t u. ClauseIn t x v i j b) (λ t u. each (look_up t) (looks_of t (clause_of t x v i j b)) u) m q
+      → Simulates ns (λ t u. SideIn t x.left z.left) (λ t u. each (look_up t) (key_of (side_def t x.left.side z.left (direction (not z.only_if)))) u) m n
+      → Simulates ns (λ t u. SideIn t x.right z.right) (λ t u. each (look_up t) (key_of (side_def t x.right.side z.right (direction (not z.only_if)))) u) n p
+      → Simulates ns (λ t u. RealOf t x.node z.value) (λ t u. look_up t (real x.node z.value) u) p q
+      → Simulates ns (λ t u. ClauseIn t x z) (λ t u. each (look_up t) (looks_of t (clause_of t x z)) u) m q
   sims_looks d e f =
-      sims_same (λ t s l k. looks_is x v i j b t s)
+      sims_same (λ t s l k. looks_is x z t s)
       (sims_then (sims_under (λ t s l k. left_in k) d)
       (sims_then (sims_under (λ t s l k. right_in k) e) (sims_under (λ t s l k. this_in k l.bounded) f)))
 
   -- What is read of the sides, of an exact memory.
-  module _ {c : ℕ} {ns : List ℕ} {m : Memory} {t : List Node} {s : State} (l : Table ns t) (k : ClauseIn t x v i j b) (e : Exact c t m s) where
-    pub left_read : SideRead m.store t s.stored x.left i
+  module _ {c : ℕ} {ns : List ℕ} {m : Memory} {t : List Node} {s : State} (l : Table ns t) (k : ClauseIn t x z) (e : Exact c t m s) where
+    pub left_read : SideRead m.store t s.stored x.left z.left
     left_read = record { bounded = l.bounded; side = left_in k; room = e.stores.room; firsts_of = firsts_of e }
 
-    pub right_read : SideRead m.store t s.stored x.right j
+    pub right_read : SideRead m.store t s.stored x.right z.right
     right_read = record { bounded = l.bounded; side = right_in k; room = e.stores.room; firsts_of = firsts_of e }
 
   pub sims_clause : {ns : List ℕ} {m q r : Memory}
-      → Simulates ns (λ t u. ClauseIn t x v i j b) (λ t u. each (look_up t) (looks_of t (clause_of t x v i j b)) u) m q
-      → Simulates ns (λ t u. ClauseIn t x v i j b) (λ t u. write t (clause_of t x v i j b) u) q r
-      → Simulates ns (λ t u. ClauseIn t x v i j b) (λ t u. write_clause t (clause_of t x v i j b) u) m r
+      → Simulates ns (λ t u. ClauseIn t x z) (λ t u. each (look_up t) (looks_of t (clause_of t x z)) u) m q
+      → Simulates ns (λ t u. ClauseIn t x z) (λ t u. write t (clause_of t x z) u) q r
+      → Simulates ns (λ t u. ClauseIn t x z) (λ t u. write_clause t (clause_of t x z) u) m r
   unfolding write_clause
   sims_clause d e = sims_then d e

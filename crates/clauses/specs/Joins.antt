@@ -1,5 +1,5 @@
 -- A join as the code has it, by value, and a clause of it.
-use Rattle.std.specs.Prelude.{◌≡◌, Bool, true, false, not, List, [], ◌∷◌, ◌++◌, ℕ, ◌+◌, ◌^◌, ◌≤◌, ◌<◌, length}
+use Rattle.std.specs.Prelude.{◌≡◌, Bool, true, false, not, List, [], ◌∷◌, ◌++◌, ℕ, ◌+◌, ◌^◌, ◌≤◌, ◌<◌, leb, ltb, length}
 use Rattle.sizes.specs.Sizes.{most_nodes, width, store_row, store_at}
 use Rattle.pb.specs.Sum.{neg}
 use Rattle.totdb.specs.Nodes.{Node, node_at, len, output}
@@ -9,6 +9,7 @@ use Rattle.rows.specs.Rows.{JoinOf}
 use Rattle.rows.specs.declared.Join.{Join}
 use Rattle.rows.specs.declared.Shown.{Shown}
 use Rattle.define.specs.Store.{direction}
+use Rattle.clauses.specs.declared.Split.{Split}
 
 -- A join with a value of it.
 pub record JoinIn (t : List Node) (x : Join) (v : ℕ) : Type 0 where
@@ -29,14 +30,20 @@ unfolding neg
 last_literal true o = neg o
 last_literal false o = o
 
--- The clause of value v with the i-th value of the left side and the j-th of the right.
-unfoldable pub clause_of : List Node → Join → ℕ → ℕ → ℕ → Bool → Clause
+-- Whether a clause has a literal of a side of length p at the value i.
+unfoldable pub has_part : Bool → ℕ → ℕ → Bool
+has_part true p i = leb i p
+has_part false p i = ltb 0 i
+
+-- The clause of a value with a value of the left side and one of the right.
+unfoldable pub clause_of : List Node → Join → Split → Clause
 unfolding node_at output direction clause_part last_literal
-clause_of t x v i j b = record {
-  left = of_side x.left.side i (direction (not b));
-  right = of_side x.right.side j (direction (not b));
-  this = of_node x.node v (direction b);
-  literals = clause_part b t x.left.side i ++ clause_part b t x.right.side j ++ (last_literal b (output (node_at t x.node) v) ∷ []);
+clause_of t x k = record {
+  left = of_side x.left.side k.left (direction (not k.only_if));
+  right = of_side x.right.side k.right (direction (not k.only_if));
+  this = of_node x.node k.value (direction k.only_if);
+  literals = clause_part k.only_if t x.left.side k.left ++ clause_part k.only_if t x.right.side k.right
+  ++ (last_literal k.only_if (output (node_at t x.node) k.value) ∷ []);
 }
 
 -- The values that a clause has of a side of length p: in if clauses from 0, in only-if clauses from 1 to one above the length.
@@ -45,10 +52,10 @@ pub record ClauseValue (b : Bool) (p i : ℕ) : Type 0 where
   pub below : b ≡ false → i ≤ p
   pub top : i ≤ p + 1
 
-pub record ClauseIn (t : List Node) (x : Join) (v i j : ℕ) (b : Bool) : Type 0 where
-  pub of : JoinIn t x v
-  pub left : ClauseValue b x.left.len i
-  pub right : ClauseValue b x.right.len j
+pub record ClauseIn (t : List Node) (x : Join) (k : Split) : Type 0 where
+  pub of : JoinIn t x k.value
+  pub left : ClauseValue k.only_if x.left.len k.left
+  pub right : ClauseValue k.only_if x.right.len k.right
 
 -- ---- bounds, where the nodes are not lent
 
@@ -66,13 +73,13 @@ pub record SideRoom (store : List ℕ) (s : Shown) (a : ℕ) : Type 0 where
   pub row : store_at s.side.node + store_row ≤ length store
   pub window : s.window + 1 < length store
 
-pub record ClauseReach (store : List ℕ) (x : Join) (v i j : ℕ) (b : Bool) : Type 0 where
+pub record ClauseReach (store : List ℕ) (x : Join) (k : Split) : Type 0 where
   pub node : x.node < most_nodes
   pub row : store_at x.node + store_row ≤ length store
   pub first : x.first ≤ 2 ^ 30
-  pub above : 1 ≤ v
-  pub within : v ≤ width
-  pub left : SideRoom store x.left i
-  pub right : SideRoom store x.right j
-  pub left_in : ClauseValue b x.left.len i
-  pub right_in : ClauseValue b x.right.len j
+  pub above : 1 ≤ k.value
+  pub within : k.value ≤ width
+  pub left : SideRoom store x.left k.left
+  pub right : SideRoom store x.right k.right
+  pub left_in : ClauseValue k.only_if x.left.len k.left
+  pub right_in : ClauseValue k.only_if x.right.len k.right

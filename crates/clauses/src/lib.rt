@@ -1,7 +1,7 @@
 // A clause of a join, with the definitions that it looks up.
 #![tactic(auto)]
 
-ghost use Rattle.std.specs.Prelude.{◌≡◌, Bool, List, ℕ, ◌≤◌, ◌<◌, ◌+◌, ◌-◌, ◌*◌, ◌^◌, length, get_or};
+ghost use Rattle.std.specs.Prelude.{◌≡◌, List, [], ◌∷◌, ℕ, ◌≤◌, ◌<◌, ◌+◌, ◌-◌, ◌*◌, ◌^◌, length, get_or};
 ghost use Rattle.sizes.specs.Sizes.{most_nodes, width, store_row, store_at};
 ghost use Rattle.memo.specs.Visit.{each};
 ghost use Rattle.totdb.specs.Nodes.{Node, node_at, output};
@@ -15,10 +15,19 @@ ghost use Rattle.define.specs.Store.{direction, clause_counted};
 ghost use Rattle.define.specs.Represents.{memory, Represented, Simulates};
 ghost use Rattle.define.specs.Lookups.{SideIn, RealOf};
 ghost use Rattle.clauses.specs.Firsts.{real_step, window_step, SideRead, has_first, side_stored, sides_stored};
-ghost use Rattle.clauses.specs.Joins.{JoinIn, ClauseIn, SideReach, SideRoom, ClauseValue, clause_of, clause_part, last_literal};
+ghost use Rattle.clauses.specs.Joins.{JoinIn, ClauseIn, SideReach, SideRoom, ClauseValue, clause_of, clause_part, has_part, last_literal};
 
-use derivation::{Clause, Part, SemDefinition};
+use derivation::{Clause, Operands, SemDefinition};
 use rows::{Join, Shown};
+
+// A split of a sum over the two sides of a join: the value, what each side has of it, and the direction of its clause.
+#[derive(Clone, Copy)]
+pub struct Split {
+    pub value: usize,
+    pub left: usize,
+    pub right: usize,
+    pub only_if: bool,
+}
 
 // A leaf, or a window of length 1: its one literal, at 0, at its own value and above.
 fn one_definition(literal: u32, value: usize) -> SemDefinition
@@ -89,25 +98,35 @@ fn side_definition(store: &[u32], s: Shown, a: usize, only_if: bool) -> SemDefin
     window_definition(store, s.window, side.offset, side.key(a), only_if)
 }
 
-// The part of a clause at the a-th literal of a side: in an if clause negated, absent at 0; in an only-if
-// clause absent above the side's length.
-fn part(s: Shown, a: usize, only_if: bool) -> Part
+// Whether a clause has a literal of a side at its a-th value: in an if clause above 0, in an only-if clause up to the side's
+// length.
+pub fn has_part(s: Shown, a: usize, only_if: bool) -> bool
+    ensures { result ≡ has_part only_if s.len a }
+{
+    if only_if { a <= s.len } else { 0 < a }
+}
+
+// This literal, in an if clause negated.
+pub fn part_literal(s: Shown, a: usize, only_if: bool) -> u32
+    requires { SideReach s a × (1 ≤ a) × (a ≤ s.len) }
+    ensures { (t : List Node) → Bounded t → SideIn t s a → result ∷ [] ≡ clause_part only_if t s.side a }
+{
+    let side = s.side;
+    let literal = side.literal(s.first, a);
+    if only_if { literal } else { pb::neg(literal) }
+}
+
+// The part of a clause at the a-th value of a side.
+fn part(s: Shown, a: usize, only_if: bool) -> Option<u32>
     requires side_reach { SideReach s a × ClauseValue only_if s.len a }
     requires bounded { (t : List Node) × Bounded t × SideIn t s a }
     ensures { (t : List Node) → Bounded t → SideIn t s a
         → Rattle.derivation.specs.Operands.part result ≡ clause_part only_if t s.side a }
 {
-    let side = s.side;
-    if only_if {
-        if s.len < a {
-            return Part::Absent;
-        }
-        return Part::Literal(side.literal(s.first, a));
+    if !has_part(s, a, only_if) {
+        return None;
     }
-    if a == 0 {
-        return Part::Absent;
-    }
-    Part::Literal(pb::neg(side.literal(s.first, a)))
+    Some(part_literal(s, a, only_if))
 }
 
 // The last literal of a clause: the output, in an only-if clause negated.
@@ -121,39 +140,26 @@ pub fn own_literal(x: Join, value: usize, only_if: bool) -> u32
 }
 
 // A clause's step and the clause, once its definitions are looked up. The step is still to be counted.
-fn put_clause(
-    store: &[u32],
-    log: &mut [u8],
-    at: usize,
-    x: Join,
-    value: usize,
-    i: usize,
-    j: usize,
-    only_if: bool,
-) -> usize
-    requires { (ns : List ℕ) × Represented ns (λ t s. ClauseIn t x value i j only_if) (memory store.now log.old at) }
-    ensures { (ns : List ℕ) → Simulates ns (λ t s. ClauseIn t x value i j only_if)
-        (λ t s. write t (clause_of t x value i j only_if) s)
+fn put_clause(store: &[u32], log: &mut [u8], at: usize, x: Join, k: Split) -> usize
+    requires { (ns : List ℕ) × Represented ns (λ t s. ClauseIn t x k) (memory store.now log.old at) }
+    ensures { (ns : List ℕ) → Simulates ns (λ t s. ClauseIn t x k) (λ t s. write t (clause_of t x k) s)
         (memory store.now log.old at) (memory (clause_counted store.now) log.new result) }
 {
     if log.len() < at {
         return at;
     }
-    let l = x.left;
-    let r = x.right;
-    let this = real_definition(store, x.node, value, only_if);
-    let left = side_definition(store, l, i, !only_if);
-    let right = side_definition(store, r, j, !only_if);
-    let left_part = part(l, i, only_if);
-    let right_part = part(r, j, only_if);
-    let step = store[sizes::STEP];
-    let c = Clause {
-        step: step,
-        left: left_part,
-        right: right_part,
-        output: own_literal(x, value, only_if),
+    let operands = Operands {
+        this: real_definition(store, x.node, k.value, k.only_if),
+        left: side_definition(store, x.left, k.left, !k.only_if),
+        right: side_definition(store, x.right, k.right, !k.only_if),
     };
-    derivation::put_clause(log, at, this, left, right, c)
+    let c = Clause {
+        step: store[sizes::STEP],
+        left: part(x.left, k.left, k.only_if),
+        right: part(x.right, k.right, k.only_if),
+        output: own_literal(x, k.value, k.only_if),
+    };
+    derivation::put_clause(log, at, operands, c)
 }
 
 // Whether a definition is stored, by its slot.
@@ -180,14 +186,11 @@ fn is_side_stored(store: &[u32], s: Shown, a: usize) -> bool
 }
 
 // Whether what both sides of a clause look up is stored.
-fn are_sides_stored(store: &[u32], x: Join, i: usize, j: usize) -> bool
-    requires { SideRoom store.now x.left i × SideRoom store.now x.right j }
-    ensures { result ≡ sides_stored store.now x i j }
+fn are_sides_stored(store: &[u32], x: Join, k: Split) -> bool
+    requires { SideRoom store.now x.left k.left × SideRoom store.now x.right k.right }
+    ensures { result ≡ sides_stored store.now x k.left k.right }
 {
-    if !is_side_stored(store, x.left, i) {
-        return false;
-    }
-    is_side_stored(store, x.right, j)
+    is_side_stored(store, x.left, k.left) && is_side_stored(store, x.right, k.right)
 }
 
 // The definition of the value itself. Where it is stored, the test spares a call.
@@ -236,18 +239,15 @@ fn look_up_each(
     log: &mut [u8],
     at: usize,
     x: Join,
-    value: usize,
-    i: usize,
-    j: usize,
+    k: Split,
 ) -> usize
-    requires { (b : Bool) × Represented nodes.now (λ t s. ClauseIn t x value i j b) (memory store.old log.old at) }
-    ensures { (b : Bool) → Simulates nodes.now (λ t s. ClauseIn t x value i j b)
-        (λ t s. each (look_up t) (looks_of t (clause_of t x value i j b)) s)
+    requires { Represented nodes.now (λ t s. ClauseIn t x k) (memory store.old log.old at) }
+    ensures { Simulates nodes.now (λ t s. ClauseIn t x k) (λ t s. each (look_up t) (looks_of t (clause_of t x k)) s)
         (memory store.old log.old at) (memory store.new log.new result) }
 {
-    let a = look_up_side(nodes, store, log, at, x.left, i);
-    let b = look_up_side(nodes, store, log, a, x.right, j);
-    look_up_this(nodes, store, log, b, x.node, value)
+    let a = look_up_side(nodes, store, log, at, x.left, k.left);
+    let b = look_up_side(nodes, store, log, a, x.right, k.right);
+    look_up_this(nodes, store, log, b, x.node, k.value)
 }
 
 // What a clause looks up. Where that of the sides is stored, the test spares two calls.
@@ -257,19 +257,16 @@ fn look_up(
     log: &mut [u8],
     at: usize,
     x: Join,
-    value: usize,
-    i: usize,
-    j: usize,
+    k: Split,
 ) -> usize
-    requires { (b : Bool) × Represented nodes.now (λ t s. ClauseIn t x value i j b) (memory store.old log.old at) }
-    ensures { (b : Bool) → Simulates nodes.now (λ t s. ClauseIn t x value i j b)
-        (λ t s. each (look_up t) (looks_of t (clause_of t x value i j b)) s)
+    requires { Represented nodes.now (λ t s. ClauseIn t x k) (memory store.old log.old at) }
+    ensures { Simulates nodes.now (λ t s. ClauseIn t x k) (λ t s. each (look_up t) (looks_of t (clause_of t x k)) s)
         (memory store.old log.old at) (memory store.new log.new result) }
 {
-    if are_sides_stored(store, x, i, j) {
-        return look_up_this(nodes, store, log, at, x.node, value);
+    if are_sides_stored(store, x, k) {
+        return look_up_this(nodes, store, log, at, x.node, k.value);
     }
-    look_up_each(nodes, store, log, at, x, value, i, j)
+    look_up_each(nodes, store, log, at, x, k)
 }
 
 // A clause, with what it looks up.
@@ -279,18 +276,14 @@ pub fn write_clause(
     log: &mut [u8],
     at: usize,
     x: Join,
-    value: usize,
-    i: usize,
-    j: usize,
-    only_if: bool,
+    k: Split,
 ) -> usize
-    requires { Represented nodes.now (λ t s. ClauseIn t x value i j only_if) (memory store.old log.old at) }
-    ensures { Simulates nodes.now (λ t s. ClauseIn t x value i j only_if)
-        (λ t s. write_clause t (clause_of t x value i j only_if) s)
+    requires { Represented nodes.now (λ t s. ClauseIn t x k) (memory store.old log.old at) }
+    ensures { Simulates nodes.now (λ t s. ClauseIn t x k) (λ t s. write_clause t (clause_of t x k) s)
         (memory store.old log.old at) (memory store.new log.new result) }
 {
-    let found = look_up(nodes, store, log, at, x, value, i, j);
-    let end = put_clause(store, log, found, x, value, i, j, only_if);
+    let found = look_up(nodes, store, log, at, x, k);
+    let end = put_clause(store, log, found, x, k);
     define::count_clause(store);
     end
 }

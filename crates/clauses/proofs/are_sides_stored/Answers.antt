@@ -3,11 +3,11 @@ use mathlib.Core.Path.{sym, ◌∙◌}
 use Rattle.clauses.proofs.Stored.{left_missing, right_last}
 use Rattle.clauses.proofs.are_sides_stored.Goals as goal
 
-pub returns-then-not-is_side_stored : goal.returns-then-not-is_side_stored
-returns-then-not-is_side_stored c =
-    left_missing c.args.store.now c.args.x c.args.i c.args.j (sym c.is_side_stored.ensures ∙ c.if-not-is_side_stored.true)
+pub returns-then-is_side_stored : goal.returns-then-is_side_stored
+returns-then-is_side_stored c =
+    c.is_side_stored-then-is_side_stored.ensures
+    ∙ right_last c.args.store.now c.args.x c.args.k.left c.args.k.right (sym c.is_side_stored.ensures ∙ c.if-is_side_stored.true)
 
-pub returns : goal.returns
-returns c =
-    c.is_side_stored-2.ensures
-    ∙ right_last c.args.store.now c.args.x c.args.i c.args.j (sym c.is_side_stored.ensures ∙ c.if-not-is_side_stored.false)
+pub returns-else-is_side_stored : goal.returns-else-is_side_stored
+returns-else-is_side_stored c =
+    c.if-is_side_stored.false ∙ left_missing c.args.store.now c.args.x c.args.k.left c.args.k.right (sym c.is_side_stored.ensures ∙ c.if-is_side_stored.false)

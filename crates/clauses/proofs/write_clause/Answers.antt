@@ -4,18 +4,15 @@ use Rattle.define.proofs.Simulates.{represented_after, store_room}
 use Rattle.clauses.proofs.Written.{sims_clause}
 use Rattle.clauses.proofs.write_clause.Goals as goal
 
-pub look_up-found-requires : goal.look_up-found-requires
-look_up-found-requires c = (c.args.only_if, c.requires)
-
 pub put_clause-end-requires : goal.put_clause-end-requires
 put_clause-end-requires c =
-    (c.before.args.nodes.now, represented_after (λ t s l k. k) (c.look_up-found.ensures c.before.args.only_if) c.before.requires)
+    (c.before.args.nodes.now, represented_after (λ t s l k. k) c.look_up-found.ensures c.before.requires)
 
 pub count_clause-requires : goal.count_clause-requires
 count_clause-requires c =
-    let r = represented_after (λ t s l k. k) (c.look_up-found.ensures c.before.args.only_if) c.before.requires in
+    let r = represented_after (λ t s l k. k) c.look_up-found.ensures c.before.requires in
     omega (arith, store_room r.represents)
 
 pub returns : goal.returns
 returns c =
-    rw c.count_clause.ensures (sims_clause (c.look_up-found.ensures c.before.args.only_if) (c.put_clause-end.ensures c.before.args.nodes.now))
+    rw c.count_clause.ensures (sims_clause c.look_up-found.ensures (c.put_clause-end.ensures c.before.args.nodes.now))
