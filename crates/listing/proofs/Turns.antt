@@ -1,30 +1,26 @@
 -- Laws that the code's proofs cite: a line, and what one more line leaves.
-use mathlib.Core.Path.{◌≡◌, ap}
+use mathlib.Core.Path.{◌≡◌, ◌∙◌}
 use mathlib.Core.List.{List, [], ◌∷◌, ◌++◌, map, flat_map, append-nil, map-append}
-use Prim.Native.Nat.{ℕ, suc, ◌+◌, ◌-◌, ◌≤◌, ◌<◌}
-use native.Mathlib.Omega.{arith}
+use Prim.Native.Nat.{ℕ, ◌+◌, ◌≤◌, ◌<◌}
 use native.Mathlib.Numerals.{add-one}
-use lib.ListN.{length, get_or, take}
-use lib.Seq.{take_all, take-suc}
+use lib.ListN.{length, get_or, take, drop}
+use lib.Seq.{take_all, take-suc, take_at, length-take-le}
 use Rattle.memo.proofs.Lists.{flat_map_append}
-use Rattle.places.specs.declared.Item.{Item}
-use Rattle.places.specs.Walk.{item_at, numbers_at, clause_at}
+use Rattle.places.specs.Walk.{clause_at}
 use Rattle.text.specs.Text.{decimal, spaced}
 use Rattle.listing.specs.Line.{newline, line}
 
-module _ (log : List ℕ) (place : ℕ) {count : Item} (p : count ≡ item_at log place) where
-  pub line_none : count.value ≡ 0 → line (clause_at log place) ≡ newline
-  unfolding clause_at numbers_at line
-  line_none h = rw (← p, h)
+pub line_none : {ls : List ℕ} → ls ≡ [] → line ls ≡ newline
+unfolding line
+line_none e = rw e
 
-  pub line_some : (count.value ≡ 0 → ⊥) → {first : Item} → first ≡ item_at log count.end
-      → line (clause_at log place) ≡ decimal first.value ++ (flat_map spaced (numbers_at log (count.value - 1) first.end) ++ newline)
-  unfolding clause_at numbers_at line
-  line_some h q =
-      let k : count.value ≡ suc (count.value - 1) = omega arith in
-      let e : clause_at log place ≡ (item_at log count.end).value ∷ numbers_at log (count.value - 1) (item_at log count.end).end =
-      rw (← p) (ap (λ (n : ℕ). numbers_at log n count.end) k) in
-      rw (e, q)
+pub line_some : {ls : List ℕ} (l : ℕ) (rest : List ℕ) → ls ≡ l ∷ rest → line ls ≡ decimal l ++ (flat_map spaced rest ++ newline)
+unfolding line
+line_some l rest e = rw e
+
+-- A list printed, as what is put at its end.
+pub front_is : (n : ℕ) (ps a : List ℕ) → n ≤ length ps → length a ≡ length (take n ps) → take n (a ++ drop n ps) ≡ a
+front_is n ps a h e = take_at a (drop n ps) n (e ∙ length-take-le n ps h)
 
 module _ (log places : List ℕ) where
   pub lines_more : (i : ℕ) → i < length places

@@ -4,22 +4,19 @@
 ghost use mathlib.Core.List.{map, flat_map};
 ghost use Rattle.std.specs.Prelude.{◌≤◌, length};
 ghost use Rattle.sizes.specs.Sizes.{most_bytes};
-ghost use Rattle.places.specs.Walk.{numbers_at, clause_at};
+ghost use Rattle.places.specs.Walk.{numbers_left, clause_at};
 ghost use Rattle.text.specs.Text.{page, Prints, spaced};
 ghost use Rattle.listing.specs.Line.{line, lines_at};
 
-use places::number_at;
+use places::Numbers;
 
-// k numbers of a log, each after a space.
-fn all_spaced(log: &[u8], k: u32, from: usize, out: &mut [u8], at: usize) -> usize
-    ensures { Prints (page out.old at) (flat_map spaced (numbers_at log.now k from)) (page out.new result) }
+// Numbers of a log, each after a space.
+fn all_spaced(numbers: Numbers<'_>, out: &mut [u8], at: usize) -> usize
+    ensures { Prints (page out.old at) (flat_map spaced (numbers_left numbers.entry)) (page out.new result) }
 {
-    let mut place = from;
     let mut end = at;
-    for i in 0..k {
-        let x = number_at(log, place);
-        end = text::spaced(out, end, x.value);
-        place = x.end;
+    for x in numbers {
+        end = text::spaced(out, end, x);
     }
     end
 }
@@ -28,14 +25,13 @@ fn all_spaced(log: &[u8], k: u32, from: usize, out: &mut [u8], at: usize) -> usi
 fn put_line(log: &[u8], place: usize, out: &mut [u8], at: usize) -> usize
     ensures { Prints (page out.old at) (line (clause_at log.now place)) (page out.new result) }
 {
-    let count = number_at(log, place);
-    if count.value == 0 {
-        return text::put(out, at, 10);
-    }
-    let first = number_at(log, count.end);
-    let after_first = text::decimal(out, at, first.value);
-    let after_all = all_spaced(log, count.value - 1, first.end, out, after_first);
-    text::put(out, after_all, 10)
+    let mut literals = places::literals(log, place);
+    let Some(first) = literals.next() else {
+        return text::put(out, at, b'\n');
+    };
+    let after_first = text::decimal(out, at, first);
+    let after_all = all_spaced(literals, out, after_first);
+    text::put(out, after_all, b'\n')
 }
 
 // The lines of the clauses at places, in their order.
@@ -43,9 +39,8 @@ fn put_lines(log: &[u8], places: &[u32], out: &mut [u8], at: usize) -> usize
     ensures { Prints (page out.old at) (flat_map line (map (clause_at log.now) places.now)) (page out.new result) }
 {
     let mut end = at;
-    for i in 0..places.len() {
-        let place = places[i] as usize;
-        end = put_line(log, place, out, end);
+    for place in places {
+        end = put_line(log, *place as usize, out, end);
     }
     end
 }

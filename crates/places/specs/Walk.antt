@@ -3,6 +3,7 @@ use Rattle.std.specs.Prelude.{Bool, true, false, cond, Option, Some, None, List,
 use Rattle.sizes.specs.Sizes.{most_bytes}
 use Rattle.number.specs.Number.{read_at}
 use Rattle.places.specs.declared.Item.{Item}
+use Rattle.places.specs.declared.Numbers.{Numbers}
 
 abbrev pub item : ℕ → ℕ → Item
 item x e = record { value = x; end = e }
@@ -47,6 +48,10 @@ unfoldable pub numbers_at : List ℕ → ℕ → ℕ → List ℕ
 unfolding read
 numbers_at log zero at = []
 numbers_at log (suc k) at = (item_at log at).value ∷ numbers_at log k (item_at log at).end
+
+-- The numbers that an iterator over numbers has left.
+abbrev pub numbers_left : Numbers → List ℕ
+numbers_left n = numbers_at n.log.now n.left n.at
 
 -- The literals of a clause whose count is at a place.
 unfoldable pub clause_at : List ℕ → ℕ → List ℕ

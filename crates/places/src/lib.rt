@@ -4,7 +4,7 @@
 ghost use Rattle.std.specs.Prelude.{◌≡◌, cond, [], ◌∷◌, ◌++◌, ◌+◌, ◌*◌, ◌≤◌, ◌<◌, length, take};
 ghost use Rattle.sizes.specs.Sizes.{most_bytes};
 ghost use Rattle.std.specs.Iterator.{YieldsFirst, item_count};
-ghost use Rattle.places.specs.Walk.{item_at, numbers_at, clause_at, skip, after_number, after_token, after_record, is_clause, count_place, clause_places};
+ghost use Rattle.places.specs.Walk.{item_at, numbers_left, clause_at, skip, after_number, after_token, after_record, is_clause, count_place, clause_places};
 
 // The clauses of a log are no more than this: a clause takes three bytes, or is cut off by the end.
 pub const MOST_CLAUSES: usize = (sizes::MOST_BYTES + 2) / 3;
@@ -25,7 +25,7 @@ pub fn number_at(log: &[u8], at: usize) -> Item
 }
 
 // So many numbers of a log, from a place on.
-#[derive(Clone, Copy)]
+#[derive(Drop)]
 pub struct Numbers<'a> {
     log: &'a [u8],
     left: u32,
@@ -35,9 +35,9 @@ pub struct Numbers<'a> {
 impl<'a> Iterator for Numbers<'a> {
     type Item = u32;
 
-    ghost next_gives = { YieldsFirst (λ n. numbers_at n.log.now n.left n.at) };
+    ghost next_gives = { YieldsFirst numbers_left };
 
-    ghost remaining = { item_count (λ n. numbers_at n.log.now n.left n.at) };
+    ghost remaining = { item_count numbers_left };
 
     fn next(&mut self) -> Option<u32> {
         self.left = self.left.checked_sub(1)?;
@@ -49,7 +49,7 @@ impl<'a> Iterator for Numbers<'a> {
 
 // The literals of the clause whose count is at a place.
 pub fn literals(log: &[u8], place: usize) -> Numbers<'_>
-    ensures { numbers_at result.log.now result.left result.at ≡ clause_at log.now place }
+    ensures { numbers_left result ≡ clause_at log.now place }
 {
     let count = number_at(log, place);
     Numbers {

@@ -1,6 +1,3 @@
-pub mod Halves
-pub mod KeyLaws
-pub mod Keying
-pub mod Merging
-pub mod Taking
-pub mod Turns
+mod Keys
+mod Permuted
+mod Sorted

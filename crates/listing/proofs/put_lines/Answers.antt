@@ -4,13 +4,13 @@ use Rattle.text.proofs.Laws.{after, nothing}
 use Rattle.listing.proofs.Turns.{lines_more, lines_all}
 use Rattle.listing.proofs.put_lines.Goals as goal
 
-pub loop-i-init : goal.loop-i-init
+pub loop-place-init : goal.loop-place-init
 unfolding flat_map
-loop-i-init c = nothing
+loop-place-init c = nothing
 
-pub loop-i-preserved : goal.loop-i-preserved
-loop-i-preserved c =
-    rw (lines_more c.args.log.now c.args.places.now c.loop-i.i (omega arith)) (after c.loop-i.invariant c.put_line-end.ensures)
+pub loop-place-preserved : goal.loop-place-preserved
+loop-place-preserved c =
+    rw (lines_more c.args.log.now c.args.places.now c.loop-place.place-index (omega arith)) (after c.loop-place.invariant c.put_line-end.ensures)
 
 pub returns : goal.returns
-returns c = rw (lines_all c.args.log.now c.args.places.now c.loop-i.i c.loop-i-test.false) at c.loop-i.invariant
+returns c = rw (lines_all c.args.log.now c.args.places.now c.loop-place.place-index c.loop-place-test.false) at c.loop-place.invariant
