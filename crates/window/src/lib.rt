@@ -9,7 +9,7 @@ ghost use Rattle.record.specs.Writing.{buffer, Puts};
 ghost use Rattle.totdb.specs.Nodes.{Node, node_at, range};
 ghost use Rattle.cert.specs.Definitions.{Key, key_records, window, window_pair};
 ghost use Rattle.derivation.specs.Summands.{summand};
-ghost use Rattle.window.specs.Window.{added, added_room, Bounds, derivation_room, first_other, Handed, summand_room, tokens_of};
+ghost use Rattle.window.specs.Window.{added, added_room, Bounds, derivation_room, first_other, Handed, summand_room, tokens_of, WindowValue};
 
 use record::{Sum, codes, kinds};
 
@@ -36,8 +36,7 @@ struct Derivation<'a> {
     window: Window<'a>,
     value: usize,
     only_if: bool,
-    ghost above: { window.offset < value },
-    ghost below: { value ≤ window.offset + window.len },
+    ghost in_window: { WindowValue window.offset window.len value },
 }
 
 impl<'a> Derivation<'a> {
@@ -72,7 +71,7 @@ impl<'a> Derivation<'a> {
 
     // The summand at s.
     fn push_summand(self, log: &mut [u8], at: usize, s: usize) -> usize
-        requires in_window { (self.window.offset < s) × (s ≤ self.window.offset + self.window.len) }
+        requires in_window { WindowValue self.window.offset self.window.len s }
         requires room { at + summand_room ≤ length log.old }
         ensures puts { (at_step : Key → ℕ → ℕ) (n : ℕ) (x : Node) → IsHanded self.entry.window at_step n x
             → Puts (buffer log.old at) (token_numbers (summands self.entry at_step n x s)) (buffer log.new result) }
@@ -101,7 +100,7 @@ impl<'a> Derivation<'a> {
 
     // The summand at s and its addition to what stands before.
     fn push_added(self, log: &mut [u8], at: usize, s: usize) -> usize
-        requires in_window { (self.window.offset < s) × (s ≤ self.window.offset + self.window.len) }
+        requires in_window { WindowValue self.window.offset self.window.len s }
         requires room { at + added_room ≤ length log.old }
         ensures puts { (at_step : Key → ℕ → ℕ) (n : ℕ) (x : Node) → IsHanded self.entry.window at_step n x
             → Puts (buffer log.old at) (token_numbers (added (summands self.entry at_step n x) s)) (buffer log.new result) }
@@ -116,7 +115,7 @@ impl<'a> Derivation<'a> {
 
     // The summands at the values of the window above `first`, each added to what stands before.
     fn push_rest(self, log: &mut [u8], at: usize, first: usize) -> usize
-        requires in_window { (self.window.offset < first) × (first ≤ self.window.offset + self.window.len) }
+        requires in_window { WindowValue self.window.offset self.window.len first }
         requires room { at + added_room * (self.window.offset + self.window.len - first) ≤ length log.old }
         ensures puts { (at_step : Key → ℕ → ℕ) (n : ℕ) (x : Node) → IsHanded self.entry.window at_step n x
             → Puts (buffer log.old at)
@@ -208,12 +207,6 @@ pub fn put_window(
         len,
     };
     let after_values = w.put_values(log, at);
-    let end = offset + len;
-    record::put_sum(
-        log,
-        after_values,
-        &outputs[offset..end],
-        true,
-        Sum::default(),
-    )
+    let own = &outputs[offset..offset + len];
+    record::put_sum(log, after_values, own, true, Sum::default())
 }
