@@ -43,7 +43,7 @@ clause_of t x k = record {
   right = of_side x.right.side k.right (direction (not k.only_if));
   this = of_node x.node k.value (direction k.only_if);
   literals = clause_part k.only_if t x.left.side k.left ++ clause_part k.only_if t x.right.side k.right
-  ++ (last_literal k.only_if (output (node_at t x.node) k.value) ∷ []);
+      ++ (last_literal k.only_if (output (node_at t x.node) k.value) ∷ []);
 }
 
 -- The values that a clause has of a side of length p: in if clauses from 0, in only-if clauses from 1 to one above the length.

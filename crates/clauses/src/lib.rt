@@ -251,14 +251,7 @@ fn look_up_each(
 }
 
 // What a clause looks up. Where that of the sides is stored, the test spares two calls.
-fn look_up(
-    nodes: &[u32],
-    store: &mut [u32],
-    log: &mut [u8],
-    at: usize,
-    x: Join,
-    k: Split,
-) -> usize
+fn look_up(nodes: &[u32], store: &mut [u32], log: &mut [u8], at: usize, x: Join, k: Split) -> usize
     requires { Represented nodes.now (λ t s. ClauseIn t x k) (memory store.old log.old at) }
     ensures { Simulates nodes.now (λ t s. ClauseIn t x k) (λ t s. each (look_up t) (looks_of t (clause_of t x k)) s)
         (memory store.old log.old at) (memory store.new log.new result) }

@@ -1,10 +1,12 @@
 -- A clause that is ready: it has both parts, its sides are plain, and its lookups do nothing.
+use Rattle.std.specs.Prelude.{Some}
 use mathlib.Core.Path.{◌≡◌, refl, sym, ap, ◌∙◌}
 use mathlib.Core.Bool.{Bool, true, false}
 use mathlib.Core.List.{List, [], ◌∷◌, ◌++◌, flat_map}
 use Prim.Native.Nat.{ℕ, ◌+◌, ◌≤◌, ◌<◌}
 use borrow.Author.Tests.{leb-true, ltb-true}
 use lib.Dec.{leb, ltb}
+use Rattle.std.specs.Prelude.{◌&&◌}
 use lib.ListN.{get_or}
 use Rattle.sizes.specs.Sizes.{store_at}
 use Rattle.record.specs.Record.{numbers}
@@ -15,7 +17,6 @@ use Rattle.cert.specs.Definitions.{side_def, real}
 use Rattle.cert.specs.Requests.{Clause, definition}
 use Rattle.cert.specs.State.{State, Stored, step_in}
 use Rattle.derivation.specs.Operands.{operand, part, clause_room, whole_numbers}
-use Rattle.derivation.specs.declared.Part.TheVariants.{Literal}
 use Rattle.derivation.specs.declared.Whole.{Whole}
 use Rattle.derivation.specs.declared.SemDefinition.TheVariants.{Step}
 use Rattle.memo.proofs.Booleans.{and_true}
@@ -27,13 +28,37 @@ use Rattle.define.specs.Lookups.{SideIn}
 use Rattle.define.proofs.SideLooks.{plain_value}
 use Rattle.define.proofs.Slots.{real_named}
 use Rattle.clauses.specs.Firsts.{real_step, FirstsOf, has_first, side_stored, sides_stored}
-use Rattle.clauses.specs.Joins.{ClauseValue}
-use Rattle.clauses.proofs.Joins.{plain_operand}
+use Rattle.clauses.specs.declared.Split.{Split}
+use Rattle.clauses.specs.Joins.{ClauseValue, has_part}
+use Rattle.clauses.proofs.Joins.{plain_operand, part_there}
 use Rattle.clauses.proofs.Stored.{long_stored, plain_first}
 use Rattle.clauses.proofs.Written.{clause_records, clause_puts}
 use Rattle.splits.specs.Ready.{is_long, are_long, has_both, is_ready, BothParts}
 
 -- ---- the tests
+
+-- The value of `a && b` in the code, by the value of a.
+pub and_then : {a b r : Bool} → a ≡ true → r ≡ b → r ≡ (a && b)
+and_then e f = rw e f
+
+pub and_else : {a r : Bool} (b : Bool) → a ≡ false → r ≡ a → r ≡ (a && b)
+and_else b e f = f ∙ rw e
+
+and_right : (a b c d e f : Bool) → (((((a && b) && c) && d) && e) && f) ≡ (a && (b && (c && (d && (e && f)))))
+and_right false b c d e f = refl
+and_right true false c d e f = refl
+and_right true true false d e f = refl
+and_right true true true false e f = refl
+and_right true true true true false f = refl
+and_right true true true true true f = refl
+
+-- The tests of `is_ready`, one after another.
+pub ready_value : (store : List ℕ) (n at : ℕ) (x : Join) (k : Split) (long : Bool) {p q s t r : Bool} → p ≡ (long && has_both x k) → q ≡ (p && leb (at + clause_room) n)
+    → s ≡ (q && has_first store (store_at x.node + k.value)) → t ≡ (s && has_first store (store_at x.left.side.node + k.left))
+    → r ≡ (t && has_first store (store_at x.right.side.node + k.right)) → r ≡ is_ready store n at x k long
+unfolding is_ready
+ready_value store n at x k long d e f g h = h ∙ rw (g, f, e, d) (and_right long (has_both x k) (leb (at + clause_room) n) (has_first store (store_at x.node + k.value))
+    (has_first store (store_at x.left.side.node + k.left)) (has_first store (store_at x.right.side.node + k.right)))
 
 pub long_side : (s : Shown) → is_long s ≡ true → (1 < s.len) × (plain_or s.side.offset s.side.limit true false ≡ true)
 unfolding is_long
@@ -43,45 +68,31 @@ pub long_sides : (x : Join) → are_long x ≡ true → (is_long x.left ≡ true
 unfolding are_long
 long_sides x h = and_true (is_long x.left) _ h
 
-pub both_parts : {x : Join} {i j : ℕ} (b : Bool) → are_long x ≡ true → has_both x i j b ≡ true → ClauseValue b x.left.len i → ClauseValue b x.right.len j
-    → BothParts x i j
+pub both_parts : {x : Join} {k : Split} → are_long x ≡ true → has_both x k ≡ true → ClauseValue k.only_if x.left.len k.left
+    → ClauseValue k.only_if x.right.len k.right → BothParts x k
 unfolding has_both
-both_parts {x} {i} {j} true l h p q =
-    let k = and_true (leb i x.left.len) _ h in
-    record {
-      long = l;
-      left_above = p.above refl;
-      left_within = leb-true i x.left.len k.0;
-      right_above = q.above refl;
-      right_within = leb-true j x.right.len k.1;
-    }
-both_parts {x} {i} {j} false l h p q =
-    let k = and_true (ltb 0 i) _ h in
-    record {
-      long = l;
-      left_above = ltb-true 0 i k.0;
-      left_within = p.below refl;
-      right_above = ltb-true 0 j k.1;
-      right_within = q.below refl;
-    }
+both_parts {x} {k} l h p q =
+    let both = and_true (has_part k.only_if x.left.len k.left) _ h in
+    let left = part_there p both.0 in
+    let right = part_there q both.1 in
+    record { long = l; left_above = left.0; left_within = left.1; right_above = right.0; right_within = right.1 }
 
-pub record Readied (store : List ℕ) (n at : ℕ) (x : Join) (v i j : ℕ) (b long : Bool) : Type 0 where
+pub record Readied (store : List ℕ) (n at : ℕ) (x : Join) (k : Split) (long : Bool) : Type 0 where
   pub long_is : long ≡ true
-  pub both : has_both x i j b ≡ true
+  pub both : has_both x k ≡ true
   pub room : at + clause_room ≤ n
-  pub this : has_first store (store_at x.node + v) ≡ true
-  pub left : has_first store (store_at x.left.side.node + i) ≡ true
-  pub right : has_first store (store_at x.right.side.node + j) ≡ true
+  pub this : has_first store (store_at x.node + k.value) ≡ true
+  pub left : has_first store (store_at x.left.side.node + k.left) ≡ true
+  pub right : has_first store (store_at x.right.side.node + k.right) ≡ true
 
-pub readied : {store : List ℕ} {n at : ℕ} {x : Join} {v i j : ℕ} {b long : Bool} → is_ready store n at x v i j b long ≡ true
-    → Readied store n at x v i j b long
+pub readied : {store : List ℕ} {n at : ℕ} {x : Join} {k : Split} {long : Bool} → is_ready store n at x k long ≡ true → Readied store n at x k long
 unfolding is_ready
-readied {store} {n} {at} {x} {v} {i} {j} {b} {long} h =
+readied {store} {n} {at} {x} {k} {long} h =
     let p = and_true long _ h in
-    let q = and_true (has_both x i j b) _ p.1 in
+    let q = and_true (has_both x k) _ p.1 in
     let r = and_true (leb (at + clause_room) n) _ q.1 in
-    let f = and_true (has_first store (store_at x.node + v)) _ r.1 in
-    let g = and_true (has_first store (store_at x.left.side.node + i)) _ f.1 in
+    let f = and_true (has_first store (store_at x.node + k.value)) _ r.1 in
+    let g = and_true (has_first store (store_at x.left.side.node + k.left)) _ f.1 in
     record { long_is = p.0; both = q.0; room = leb-true (at + clause_room) n r.0; this = f.0; left = g.0; right = g.1 }
 
 -- The key of a plain side's value is the value itself.
@@ -100,12 +111,12 @@ module _ (store : List ℕ) where
       (plain_first s.side.offset s.side.limit _ _ p.1 ∙ ap (λ (k : ℕ). store_at s.side.node + k) (plain_keyed s.side p.1 a)))
       ∙ h
 
-  pub sides_ready : {n at : ℕ} {x : Join} {v i j : ℕ} {b long : Bool} → are_long x ≡ true → Readied store n at x v i j b long
-      → sides_stored store x i j ≡ true
+  pub sides_ready : {n at : ℕ} {x : Join} {k : Split} {long : Bool} → are_long x ≡ true → Readied store n at x k long
+      → sides_stored store x k.left k.right ≡ true
   unfolding sides_stored
-  sides_ready {x = x} {i = i} {j} l r =
+  sides_ready {x = x} {k = k} l r =
       let s = long_sides x l in
-      rw (side_ready x.left i s.0 r.left, side_ready x.right j s.1 r.right)
+      rw (side_ready x.left k.left s.0 r.left, side_ready x.right k.right s.1 r.right)
 
   -- The step of a plain side's definition.
   pub long_operand : {t : List Node} {es : List Stored} → Bounded t → {s : Shown} {a : ℕ} → SideIn t s a → FirstsOf t store es → (q : Bool) → is_long s ≡ true
@@ -126,4 +137,4 @@ pub whole_puts : {b d : Buffer} (t : List Node) (k : Clause) (u : State) (w : Wh
 unfolding whole_numbers part
 whole_puts t k u w et el er ek es x =
     clause_puts t k u (Step w.this) (Step w.left) (Step w.right)
-    (record { step = w.step; left = Literal w.left_part; right = Literal w.right_part; output = w.output }) et el er ek es x
+    (record { step = w.step; left = Some w.left_part; right = Some w.right_part; output = w.output }) et el er ek es x

@@ -17,6 +17,7 @@ use Rattle.rows.specs.declared.Join.{Join}
 use Rattle.define.specs.Store.{direction}
 use Rattle.define.specs.Represents.{Memory, Represented, Simulates}
 use Rattle.define.proofs.Simulates.{sims_none, sims_then, sims_under, sims_same}
+use Rattle.clauses.specs.declared.Split.{Split}
 use Rattle.clauses.specs.Joins.{JoinIn, ClauseIn, ClauseValue, clause_of, clause_part, last_literal}
 use Rattle.splits.specs.Splits.{split_sum, left_value}
 use Rattle.clauses.proofs.Joins.{join_fits}
@@ -27,6 +28,10 @@ sum_low : (v : ℕ) (b : Bool) → split_sum v b ≤ v
 unfolding split_sum
 sum_low v true = omega arith
 sum_low v false = omega arith
+
+-- The split of a clause, by what the left side has of the sum.
+abbrev pub split_of : ℕ → Bool → ℕ → Split
+split_of v b a = record { value = v; left = left_value a b; right = v - a; only_if = b }
 
 -- The bounds of the loop.
 pub record Between (x : Join) (v : ℕ) (b : Bool) (low high : ℕ) : Type 0 where
@@ -53,13 +58,10 @@ between {x = x} {v} {b} s g d k =
     }
 
 pub split_in : {x : Join} {v : ℕ} {b : Bool} {low high : ℕ} → Between x v b low high → (a : ℕ) → low ≤ a → a ≤ high
-    → {j : ℕ} → j ≡ left_value a b → (t : List Node) → JoinIn t x v → ClauseIn t x v j (v - a) b
+    → {z : Split} → z ≡ split_of v b a → (t : List Node) → JoinIn t x v → ClauseIn t x z
 unfolding split_sum left_value
-split_in {x} {v} {b} {low} {high} w a h k e t i = record {
-  of = i;
-  left = rw e (left_within b w.high_is);
-  right = right_within b i.above w.low_is w.high_is;
-}
+split_in {x} {v} {b} {low} {high} w a h k e t i =
+    rw e (record { of = i; left = left_within b w.high_is; right = right_within b i.above w.low_is w.high_is })
   where
     left_within : (b : Bool) → high ≡ min (split_sum v b) x.left.len
         → ClauseValue b x.left.len (left_value a b)
@@ -76,7 +78,7 @@ split_in {x} {v} {b} {low} {high} w a h k e t i = record {
 
 -- The clause of the split a.
 abbrev pub split_clause : List Node → Join → ℕ → Bool → ℕ → Clause
-split_clause t x v b a = clause_of t x v (left_value a b) (v - a) b
+split_clause t x v b a = clause_of t x (split_of v b a)
 
 -- The clauses of the splits from low up to below a.
 abbrev pub splits_to : Join → ℕ → Bool → ℕ → ℕ → List Node → State → State
@@ -108,7 +110,8 @@ module _ {t : List Node} {x : Join} {v : ℕ} (i : JoinIn t x v) where
   only_same a h =
       let e : suc a ≡ a + 1 = omega arith in
       let f : suc (v - 1 - a) ≡ v - a = omega (arith, i.above) in
-      ap (λ (j : ℕ). clause_of t x v (suc a) j true) f ∙ ap (λ (k : ℕ). clause_of t x v k (v - a) true) e
+      ap (λ (j : ℕ). clause_of t x (record { value = v; left = suc a; right = j; only_if = true })) f
+      ∙ ap (λ (k : ℕ). clause_of t x (record { value = v; left = k; right = v - a; only_if = true })) e
 
   clauses_are : {low high : ℕ} (b : Bool) → Between x v b low high
       → clauses_of t (request x.node v (direction b)) ≡ map {B = Clause} (split_clause t x v b) (range low (high + 1 - low))
@@ -129,15 +132,15 @@ module _ {ns : List ℕ} {x : Join} {v : ℕ} where
       let e : 0 ≡ low - low = omega arith in
       sims_same (λ t u l i. ap (λ (k : ℕ). each (write_clause t) (map {B = Clause} (split_clause t x v b) (range low k)) u) e) sims_none
 
-  pub one_more : {b : Bool} {low high : ℕ} (a : ℕ) {j : ℕ} {m n p : Memory} → Between x v b low high → low ≤ a → a ≤ high → j ≡ left_value a b
+  pub one_more : {b : Bool} {low high : ℕ} (a : ℕ) {z : Split} {m n p : Memory} → Between x v b low high → low ≤ a → a ≤ high → z ≡ split_of v b a
       → Simulates ns (λ t u. JoinIn t x v) (splits_to x v b low a) m n
-      → Simulates ns (λ t u. ClauseIn t x v j (v - a) b) (λ t u. write_clause t (clause_of t x v j (v - a) b) u) n p
+      → Simulates ns (λ t u. ClauseIn t x z) (λ t u. write_clause t (clause_of t x z) u) n p
       → Simulates ns (λ t u. JoinIn t x v) (splits_to x v b low (a + 1)) m p
   unfolding each
-  one_more {b} {low} a {j} w h k e c d = sims_same (λ t u l i. one t u) (sims_then c (sims_under (λ t u l i. split_in w a h k e t i) d))
+  one_more {b} {low} a {z} w h k e c d = sims_same (λ t u l i. one t u) (sims_then c (sims_under (λ t u l i. split_in w a h k e t i) d))
     where
       one : (t : List Node) (u : State)
-          → write_clause t (clause_of t x v j (v - a) b) (splits_to x v b low a t u) ≡ splits_to x v b low (a + 1) t u
+          → write_clause t (clause_of t x z) (splits_to x v b low a t u) ≡ splits_to x v b low (a + 1) t u
       one t u =
           let f : a + 1 - low ≡ suc (a - low) = omega arith in
           let g : low + (a - low) ≡ a = omega arith in

@@ -5,7 +5,9 @@ use Rattle.totdb.specs.Nodes.{plain_or}
 use Rattle.derivation.specs.Operands.{clause_room}
 use Rattle.rows.specs.declared.Join.{Join}
 use Rattle.rows.specs.declared.Shown.{Shown}
+use Rattle.clauses.specs.declared.Split.{Split}
 use Rattle.clauses.specs.Firsts.{has_first}
+use Rattle.clauses.specs.Joins.{has_part}
 
 -- A side is plain and has two values or more.
 unfoldable pub is_long : Shown → Bool
@@ -16,24 +18,24 @@ unfoldable pub are_long : Join → Bool
 unfolding is_long
 are_long x = is_long x.left && is_long x.right
 
--- The clause of i and j has both parts: in an only-if clause neither value is above its side's length, in an if clause neither is 0.
-unfoldable pub has_both : Join → ℕ → ℕ → Bool → Bool
-has_both x i j true = leb i x.left.len && leb j x.right.len
-has_both x i j false = ltb 0 i && ltb 0 j
+-- The clause has both parts.
+unfoldable pub has_both : Join → Split → Bool
+unfolding has_part
+has_both x k = has_part k.only_if x.left.len k.left && has_part k.only_if x.right.len k.right
 
-pub record BothParts (x : Join) (i j : ℕ) : Type 0 where
+pub record BothParts (x : Join) (k : Split) : Type 0 where
   pub long : are_long x ≡ true
-  pub left_above : 1 ≤ i
-  pub left_within : i ≤ x.left.len
-  pub right_above : 1 ≤ j
-  pub right_within : j ≤ x.right.len
+  pub left_above : 1 ≤ k.left
+  pub left_within : k.left ≤ x.left.len
+  pub right_above : 1 ≤ k.right
+  pub right_within : k.right ≤ x.right.len
 
 -- The clause has both parts, its three definitions are stored, and there is room for it in a log of n bytes.
-unfoldable pub is_ready : List ℕ → ℕ → ℕ → Join → ℕ → ℕ → ℕ → Bool → Bool → Bool
+unfoldable pub is_ready : List ℕ → ℕ → ℕ → Join → Split → Bool → Bool
 unfolding has_both
-is_ready store n at x v i j b long =
+is_ready store n at x k long =
     long
-    && (has_both x i j b
+    && (has_both x k
     && (leb (at + clause_room) n
-    && (has_first store (store_at x.node + v)
-    && (has_first store (store_at x.left.side.node + i) && has_first store (store_at x.right.side.node + j)))))
+    && (has_first store (store_at x.node + k.value)
+    && (has_first store (store_at x.left.side.node + k.left) && has_first store (store_at x.right.side.node + k.right)))))

@@ -1,25 +1,13 @@
--- `splits::has_both` meets its contract: by the direction.
-use Rattle.std.proofs.Common.{arith}
-use borrow.Author.Tests.{lt-leb, le-leb, lt-ltb, le-ltb}
+-- `splits::has_both` meets its contract.
+use mathlib.Core.Path.{sym, ◌∙◌}
 use Rattle.splits.specs.Ready.{has_both}
+use Rattle.splits.proofs.Ready.{and_then, and_else}
 use Rattle.splits.proofs.has_both.Goals as goal
 
-pub returns-then-l-i : goal.returns-then-l-i
+pub returns-then-has_part : goal.returns-then-has_part
 unfolding has_both
-returns-then-l-i c =
-    rw (c.if-only_if.true, lt-leb c.args.i c.args.x.left.len c.if-l-i.true)
+returns-then-has_part c = and_then (sym c.has_part.ensures ∙ c.if-has_part.true) c.has_part-then-has_part.ensures
 
-pub returns-then-only_if : goal.returns-then-only_if
+pub returns-else-has_part : goal.returns-else-has_part
 unfolding has_both
-returns-then-only_if c =
-    rw (c.if-only_if.true, le-leb c.args.i c.args.x.left.len (omega arith))
-
-pub returns-then-i-eq0 : goal.returns-then-i-eq0
-unfolding has_both
-returns-then-i-eq0 c =
-    rw (c.if-only_if.false, le-ltb 0 c.args.i (omega arith))
-
-pub returns : goal.returns
-unfolding has_both
-returns c =
-    rw (c.if-only_if.false, lt-ltb 0 c.args.i (omega arith))
+returns-else-has_part c = and_else _ (sym c.has_part.ensures ∙ c.if-has_part.false) c.has_part.ensures

@@ -1,61 +1,53 @@
--- `splits::is_ready` meets its contract: each test in turn.
-use mathlib.Core.Path.{sym, ◌∙◌}
-use Rattle.splits.specs.Ready.{is_ready}
+-- `splits::is_ready` meets its contract: each `&&` of the code is one of `is_ready`.
+use mathlib.Core.Path.{refl, ◌∙◌}
+use Rattle.splits.proofs.Ready.{and_then, and_else, ready_value}
+use Rattle.splits.proofs.is_ready.Goals.{then-long, else-long, then-has_both, else-has_both, then-fits, else-fits, then-has_first, else-has_first}
 use Rattle.splits.proofs.is_ready.Goals as goal
-
-pub returns-then-not-long : goal.returns-then-not-long
-unfolding is_ready
-returns-then-not-long c =
-    rw (c.if-not-long.true)
-
-pub returns-then-not-has_both : goal.returns-then-not-has_both
-unfolding is_ready
-returns-then-not-has_both c =
-    rw (c.if-not-long.false, sym c.has_both.ensures ∙ c.if-not-has_both.true)
-
-pub returns-then-not-fits : goal.returns-then-not-fits
-unfolding is_ready
-returns-then-not-fits c =
-    rw (
-      c.if-not-long.false,
-      sym c.has_both.ensures ∙ c.if-not-has_both.false,
-      sym c.fits.ensures ∙ c.if-not-fits.true,
-    )
-
-pub returns-then-not-has_first : goal.returns-then-not-has_first
-unfolding is_ready
-returns-then-not-has_first c =
-    rw (
-      c.if-not-long.false,
-      sym c.has_both.ensures ∙ c.if-not-has_both.false,
-      sym c.fits.ensures ∙ c.if-not-fits.false,
-      sym (rw c.store_at.ensures at c.has_first.ensures) ∙ c.if-not-has_first.true,
-    )
 
 pub has_first_of-requires : goal.has_first_of-requires
 has_first_of-requires c = c.requires.left
 
-pub returns-then-not-has_first_of : goal.returns-then-not-has_first_of
-unfolding is_ready
-returns-then-not-has_first_of c =
-    rw (
-      c.if-not-long.false,
-      sym c.has_both.ensures ∙ c.if-not-has_both.false,
-      sym c.fits.ensures ∙ c.if-not-fits.false,
-      sym (rw c.store_at.ensures at c.has_first.ensures) ∙ c.if-not-has_first.false,
-      sym c.has_first_of.ensures ∙ c.if-not-has_first_of.true,
-    )
+pub has_first_of-requires-then-has_first_of : goal.has_first_of-requires-then-has_first_of
+has_first_of-requires-then-has_first_of c = c.requires.right
 
-pub has_first_of-requires-2 : goal.has_first_of-requires-2
-has_first_of-requires-2 c = c.requires.right
+pub returns-then-has_first_of : goal.returns-then-has_first_of
+returns-then-has_first_of c =
+    ready_value c.args.store.now c.args.length c.args.at c.args.x c.args.k c.args.long
+    (elim c.if-long.branch [
+      | then-long w ↦ w.value-is ∙ and_then w.if-long.true w.has_both.ensures
+      | else-long w ↦ and_else _ w.if-long.false w.value-is
+    ])
+    (elim c.if-has_both.branch [
+      | then-has_both w ↦ w.value-is ∙ and_then w.if-has_both.true w.fits.ensures
+      | else-has_both w ↦ and_else _ w.if-has_both.false w.value-is
+    ])
+    (elim c.if-fits.branch [
+      | then-fits w ↦ w.value-is ∙ and_then w.if-fits.true (rw w.store_at.ensures at w.has_first.ensures)
+      | else-fits w ↦ and_else _ w.if-fits.false w.value-is
+    ])
+    (elim c.if-has_first.branch [
+      | then-has_first w ↦ w.value-is ∙ and_then w.if-has_first.true w.has_first_of.ensures
+      | else-has_first w ↦ and_else _ w.if-has_first.false w.value-is
+    ])
+    (and_then c.if-has_first_of.true c.has_first_of-then-has_first_of.ensures)
 
-pub returns : goal.returns
-unfolding is_ready
-returns c =
-    rw (
-      c.if-not-long.false,
-      sym c.has_both.ensures ∙ c.if-not-has_both.false,
-      sym c.fits.ensures ∙ c.if-not-fits.false,
-      sym (rw c.store_at.ensures at c.has_first.ensures) ∙ c.if-not-has_first.false,
-      sym c.has_first_of.ensures ∙ c.if-not-has_first_of.false,
-    ) c.has_first_of-2.ensures
+pub returns-else-has_first_of : goal.returns-else-has_first_of
+returns-else-has_first_of c =
+    ready_value c.args.store.now c.args.length c.args.at c.args.x c.args.k c.args.long
+    (elim c.if-long.branch [
+      | then-long w ↦ w.value-is ∙ and_then w.if-long.true w.has_both.ensures
+      | else-long w ↦ and_else _ w.if-long.false w.value-is
+    ])
+    (elim c.if-has_both.branch [
+      | then-has_both w ↦ w.value-is ∙ and_then w.if-has_both.true w.fits.ensures
+      | else-has_both w ↦ and_else _ w.if-has_both.false w.value-is
+    ])
+    (elim c.if-fits.branch [
+      | then-fits w ↦ w.value-is ∙ and_then w.if-fits.true (rw w.store_at.ensures at w.has_first.ensures)
+      | else-fits w ↦ and_else _ w.if-fits.false w.value-is
+    ])
+    (elim c.if-has_first.branch [
+      | then-has_first w ↦ w.value-is ∙ and_then w.if-has_first.true w.has_first_of.ensures
+      | else-has_first w ↦ and_else _ w.if-has_first.false w.value-is
+    ])
+    (and_else _ c.if-has_first_of.false refl)

@@ -45,19 +45,19 @@ bounds-store-8193 c =
 pub later_step-requires : goal.later_step-requires
 later_step-requires c =
     let low = firsts_of (exact_of (omega (arith, c.requires.both_parts.1)) c.requires.represented.1.represents) in
-    rw c.store_at.ensures (first_low low c.args.x.node c.args.value (real_named c.requires.represented.1.table.bounded (this_in c.requires.represented.1.holds c.requires.represented.1.table.bounded)).used)
+    rw c.store_at.ensures (first_low low c.args.x.node c.args.k.value (real_named c.requires.represented.1.table.bounded (this_in c.requires.represented.1.holds c.requires.represented.1.table.bounded)).used)
 
 pub later_step-requires-2 : goal.later_step-requires-2
 later_step-requires-2 c =
     let low = firsts_of (exact_of (omega (arith, c.requires.both_parts.1)) c.requires.represented.1.represents) in
     let long = (long_sides c.args.x c.requires.both_parts.0.long).0 in
-    rw c.first_of-left.ensures (first_low low _ c.args.i (long_used c.requires.represented.1.table.bounded (left_in c.requires.represented.1.holds) long))
+    rw c.first_of-left.ensures (first_low low _ c.args.k.left (long_used c.requires.represented.1.table.bounded (left_in c.requires.represented.1.holds) long))
 
 pub later_step-requires-3 : goal.later_step-requires-3
 later_step-requires-3 c =
     let low = firsts_of (exact_of (omega (arith, c.requires.both_parts.1)) c.requires.represented.1.represents) in
     let long = (long_sides c.args.x c.requires.both_parts.0.long).1 in
-    rw c.first_of-right.ensures (first_low low _ c.args.j (long_used c.requires.represented.1.table.bounded (right_in c.requires.represented.1.holds) long))
+    rw c.first_of-right.ensures (first_low low _ c.args.k.right (long_used c.requires.represented.1.table.bounded (right_in c.requires.represented.1.holds) long))
 
 pub part_literal-requires : goal.part_literal-requires
 part_literal-requires c =
@@ -79,15 +79,15 @@ unfolding clause_of definition
 returns c =
     let long = long_sides c.args.x c.requires.both_parts.0.long in
     λ ns.
-    sims_write {ns = ns} {P = λ t s. ClauseIn t c.args.x c.args.value c.args.i c.args.j c.args.only_if}
-    (λ t. clause_of t c.args.x c.args.value c.args.i c.args.j c.args.only_if) (omega (arith, c.requires.both_parts.1)) c.push_whole.ensures.onward (λ n t s l p e.
-    whole_puts t (clause_of t c.args.x c.args.value c.args.i c.args.j c.args.only_if) s _
-    (ap Step (c.later_step.ensures c.args.value p.of.above)
-    ∙ rw c.store_at.ensures (real_read (firsts_of e) c.args.x.node c.args.value c.args.only_if (real_named l.bounded (this_in p l.bounded)).used))
-    (ap Step (c.later_step-2.ensures c.args.i c.requires.both_parts.0.left_above)
-    ∙ rw c.first_of-left.ensures (long_operand _ l.bounded (left_in p) (firsts_of e) (not c.args.only_if) long.0))
-    (ap Step (c.later_step-3.ensures c.args.j c.requires.both_parts.0.right_above)
-    ∙ rw c.first_of-right.ensures (long_operand _ l.bounded (right_in p) (firsts_of e) (not c.args.only_if) long.1))
+    sims_write {ns = ns} {P = λ t s. ClauseIn t c.args.x c.args.k}
+    (λ t. clause_of t c.args.x c.args.k) (omega (arith, c.requires.both_parts.1)) c.push_whole.ensures.onward (λ n t s l p e.
+    whole_puts t (clause_of t c.args.x c.args.k) s _
+    (ap Step (c.later_step.ensures c.args.k.value p.of.above)
+    ∙ rw c.store_at.ensures (real_read (firsts_of e) c.args.x.node c.args.k.value c.args.k.only_if (real_named l.bounded (this_in p l.bounded)).used))
+    (ap Step (c.later_step-2.ensures c.args.k.left c.requires.both_parts.0.left_above)
+    ∙ rw c.first_of-left.ensures (long_operand _ l.bounded (left_in p) (firsts_of e) (not c.args.k.only_if) long.0))
+    (ap Step (c.later_step-3.ensures c.args.k.right c.requires.both_parts.0.right_above)
+    ∙ rw c.first_of-right.ensures (long_operand _ l.bounded (right_in p) (firsts_of e) (not c.args.k.only_if) long.1))
     (three_parts (c.part_literal.ensures t l.bounded (left_in p)) (c.part_literal-2.ensures t l.bounded (right_in p))
     (c.own_literal.ensures t p.of))
     e.stores.counters.step c.push_whole.ensures)

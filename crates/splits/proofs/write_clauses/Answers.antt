@@ -9,25 +9,25 @@ split_sum-sum-requires c = c.requires.holds.above
 
 pub overflow_add-a-end : goal.overflow_add-a-end
 overflow_add-a-end c =
-    let w = between c.requires c.split_sum-sum.ensures c.least-low.ensures c.greatest-high.ensures in
+    let w = between c.requires c.split_sum-sum.ensures c.saturating_sub-low.ensures c.min-high.ensures in
     omega (arith, w.short)
 
 pub loop-a-init : goal.loop-a-init
 loop-a-init c =
-    let w = between c.requires c.split_sum-sum.ensures c.least-low.ensures c.greatest-high.ensures in
+    let w = between c.requires c.split_sum-sum.ensures c.saturating_sub-low.ensures c.min-high.ensures in
     (w, refl, omega arith, omega (arith, w.some), refl, refl, none_yet _ _, c.are_long-long.ensures)
 
-pub left_value-i-requires : goal.left_value-i-requires
-left_value-i-requires c = omega (arith, c.loop-a.invariant.0.short)
+pub left_value-requires : goal.left_value-requires
+left_value-requires c = omega (arith, c.loop-a.invariant.0.short)
 
-pub overflow_sub-value : goal.overflow_sub-value
-overflow_sub-value c = omega (arith, c.loop-a.invariant.0.within)
+pub overflow_sub-k : goal.overflow_sub-k
+overflow_sub-k c = omega (arith, c.loop-a.invariant.0.within)
 
 pub write_split-p-requires : goal.write_split-p-requires
 write_split-p-requires c =
     record {
       long_value = c.loop-a.invariant.7;
-      represented = represented_to (λ t s l i. split_in c.loop-a.invariant.0 c.loop-a.a c.loop-a.invariant.2 (omega arith) c.left_value-i.ensures t i)
+      represented = represented_to (λ t s l i. split_in c.loop-a.invariant.0 c.loop-a.a c.loop-a.invariant.2 (omega arith) (rw c.left_value.ensures) t i)
           (represented_after (λ t s l i. i) c.loop-a.invariant.6 c.requires);
     }
 
@@ -42,7 +42,7 @@ loop-a-preserved c = (
   omega arith,
   c.write_split-p.auto.store ∙ c.loop-a.invariant.4,
   c.write_split-p.auto.log ∙ c.loop-a.invariant.5,
-  one_more c.loop-a.a c.loop-a.invariant.0 c.loop-a.invariant.2 (omega arith) c.left_value-i.ensures c.loop-a.invariant.6 c.write_split-p.ensures,
+  one_more c.loop-a.a c.loop-a.invariant.0 c.loop-a.invariant.2 (omega arith) (rw c.left_value.ensures) c.loop-a.invariant.6 c.write_split-p.ensures,
   c.loop-a.invariant.7,
 )
 

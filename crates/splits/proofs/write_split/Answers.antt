@@ -16,7 +16,7 @@ pub push_split-end-requires : goal.push_split-end-requires
 push_split-end-requires c =
     let r = readied (sym c.is_ready.ensures ∙ c.if-is_ready.true) in
     let long = sym c.requires.long_value ∙ r.long_is in
-    record { both_parts = (both_parts c.args.only_if long r.both c.requires.represented.holds.left c.requires.represented.holds.right, r.room); represented = (c.args.nodes.now, c.requires.represented) }
+    record { both_parts = (both_parts long r.both c.requires.represented.holds.left c.requires.represented.holds.right, r.room); represented = (c.args.nodes.now, c.requires.represented) }
 
 pub count_clause-requires : goal.count_clause-requires
 count_clause-requires c = omega (arith, store_room c.requires.represented.represents)
