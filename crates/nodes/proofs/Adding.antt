@@ -7,7 +7,7 @@ use native.Mathlib.Omega.{arith}
 use lib.Dec.{eqb}
 use lib.ListN.{length, get_or, set, take, replicate, length-set, length-append, length-take, length-drop, length-replicate}
 use lib.Seq.{paste, length-paste, get_or-set_other, take-append_seam, set-get_or}
-use Rattle.sizes.specs.Sizes.{most_leaves, width, leaf_nodes, nodes_start, row, row_at, taken_column, taken_at}
+use Rattle.sizes.specs.Sizes.{most_leaves, width, leaf_nodes, nodes_start, row, row_at, taken_column, taken_at, left_window, right_window}
 use Rattle.totdb.specs.Nodes.{Node, leaf, join, node_at, len, leaves, output, range, side_len, side_leaves, join_of, plain_form, leaf_count, is_over, taken}
 use Rattle.totdb.specs.Leaves.{LeafEntry}
 use Rattle.totdb.specs.declared.Side.{Side}
@@ -16,11 +16,12 @@ use Rattle.totdb.proofs.Sides.{plain_length}
 use Rattle.cert.specs.Sized.{Fit}
 use Rattle.cert.proofs.Rules.{side_len-more}
 use Rattle.cert.proofs.Tables.{at_last, length_snoc, side_some, taken_snoc}
+use Rattle.rows.specs.declared.Shown.{Shown}
 use Rattle.rows.specs.Windows.{at_left, at_right}
 use Rattle.rows.specs.Rows.{row_of, KindOf, Row, read_leaf, Bounded, Table}
 use Rattle.rows.proofs.Sides.{window_own}
 use Rattle.rows.proofs.Growing.{SidesOf, bounded_snoc, taken_last, table_snoc}
-use Rattle.nodes.specs.Added.{Leafable, Joinable, Sided, leaf_numbers, join_numbers}
+use Rattle.nodes.specs.Added.{Leafable, Joinable, Sided, shown_of, leaf_numbers, join_numbers}
 use Rattle.nodes.proofs.Placing.{put_below, put_before, put_here, row_kept, mark_other, marks_are}
 use Rattle.nodes.proofs.Leaves.{leaves_agree, leaves_more}
 use Rattle.nodes.proofs.Literals.{side_count}
@@ -136,6 +137,12 @@ module _ {ns : List ℕ} {t : List Node} {n v : ℕ} {l r : Side} (j : Joinable 
         low = j.low;
       }
 
+  abbrev pub left : Shown
+  left = shown_of t l (left_window n)
+
+  abbrev pub right : Shown
+  right = shown_of t r (right_window n)
+
   abbrev both : List ℕ
   both = side_leaves t l ++ side_leaves t r
 
@@ -143,25 +150,20 @@ module _ {ns : List ℕ} {t : List Node} {n v : ℕ} {l r : Side} (j : Joinable 
   with_join = t ++ (join_of t v l r ∷ [])
 
   abbrev new_row : List ℕ
-  new_row = join_numbers n v l (side_leaves t l) r (side_leaves t r)
+  new_row = join_numbers v left (side_leaves t l) right (side_leaves t r)
 
   both_long : length both ≡ side_len t l + side_len t r
   both_long = length-append (side_leaves t l) (side_leaves t r) ∙ rw (side_count t l, side_count t r)
 
-  -- The lengths that the code has of the two sides.
-  module _ {p q : ℕ} (e : p ≡ side_len t l) (f : q ≡ side_len t r) where
-    pub left_side : Sided ns t l p
-    left_side = record { table = j.table; there = j.left; length = e; some = j.left_some; inside = j.left_in }
+  pub left_side : Sided ns t left
+  left_side = record { table = j.table; there = j.left; length = refl; first = refl; some = j.left_some; inside = j.left_in }
 
-    pub right_side : Sided ns t r q
-    right_side = record { table = j.table; there = j.right; length = f; some = j.right_some; inside = j.right_in }
+  pub right_side : Sided ns t right
+  right_side = record { table = j.table; there = j.right; length = refl; first = refl; some = j.right_some; inside = j.right_in }
 
-    pub both_fit : p + q ≤ width
-    both_fit = omega (arith, j.short)
-
-    pub length_join : p + q ≡ len (join_of t v l r)
-    unfolding len leaves
-    length_join = omega (arith, both_long)
+  pub length_join : left.len + right.len ≡ len (join_of t v l r)
+  unfolding len leaves
+  length_join = omega (arith, both_long)
 
   bounded_join : Bounded with_join
   unfolding len leaves output Fit SidesOf
@@ -200,12 +202,12 @@ module _ {ns : List ℕ} {t : List Node} {n v : ℕ} {l r : Side} (j : Joinable 
           refl,
           record {
             is = refl;
-            length = side_count t l ∙ side_len-more t (join both v l r ∷ []) l j.left;
+            length = side_len-more t (join both v l r ∷ []) l j.left;
             window = sym (window_own bounded_join (at_left n both v l r here is));
           },
           record {
             is = refl;
-            length = side_count t r ∙ side_len-more t (join both v l r ∷ []) r j.right;
+            length = side_len-more t (join both v l r ∷ []) r j.right;
             window = sym (window_own bounded_join (at_right n both v l r here is));
           },
         );

@@ -5,8 +5,8 @@ use Prim.Native.Nat.{ℕ, zero, suc, ◌+◌, ◌-◌, ◌*◌}
 use native.Mathlib.Omega.{arith}
 use lib.ListN.{length, set, drop, replicate, length-append}
 use lib.Seq.{paste, sets, take_at, take_all, drop-append-add}
-use Rattle.sizes.specs.Sizes.{width, row, length_column, first_column, kind_column, left_column, right_column, list_column, left_window, right_window}
-use Rattle.totdb.specs.declared.Side.{Side}
+use Rattle.sizes.specs.Sizes.{width, row, length_column, first_column, kind_column, left_column, right_column, list_column}
+use Rattle.rows.specs.declared.Shown.{Shown}
 use Rattle.nodes.specs.Added.{side_numbers, join_numbers}
 
 -- ---- a list put where zeros are
@@ -24,17 +24,17 @@ put_list p a q n k e f =
 
 -- ---- the row
 
-module _ (n v : ℕ) (l r : Side) (a b : List ℕ) {p q : ℕ} (e : p ≡ length a) (f : q ≡ length b) where
-  both_lists : {x y : List ℕ} → x ≡ paste (replicate row 0) list_column a p → y ≡ paste x (list_column + p) b q
-      → y ≡ replicate list_column 0 ++ (a ++ (b ++ replicate (width - p - q) 0))
+module _ (v : ℕ) (l r : Shown) (a b : List ℕ) (e : l.len ≡ length a) (f : r.len ≡ length b) where
+  both_lists : {x y : List ℕ} → x ≡ paste (replicate row 0) list_column a l.len → y ≡ paste x (list_column + l.len) b r.len
+      → y ≡ replicate list_column 0 ++ (a ++ (b ++ replicate (width - l.len - r.len) 0))
   both_lists {x = x} {y = y} g h =
       let head : List ℕ = replicate list_column 0 in
-      let first : x ≡ (head ++ a) ++ replicate (width - p) 0 =
-      g ∙ put_list head a list_column p width refl (sym e) ∙ sym (append_assoc head a (replicate (width - p) 0)) in
-      h ∙ rw first (put_list (head ++ a) b (list_column + p) q (width - p) (omega (arith, length-append head a)) (sym f)
-      ∙ append_assoc head a (b ++ replicate (width - p - q) 0))
+      let first : x ≡ (head ++ a) ++ replicate (width - l.len) 0 =
+      g ∙ put_list head a list_column l.len width refl (sym e) ∙ sym (append_assoc head a (replicate (width - l.len) 0)) in
+      h ∙ rw first (put_list (head ++ a) b (list_column + l.len) r.len (width - l.len) (omega (arith, length-append head a)) (sym f)
+      ∙ append_assoc head a (b ++ replicate (width - l.len - r.len) 0))
 
-  pub row_made : {x y z w : List ℕ} → x ≡ paste (replicate row 0) list_column a p → y ≡ paste x (list_column + p) b q
-      → z ≡ sets (set (set (set y length_column (p + q)) first_column (2 * v)) kind_column 1) left_column (side_numbers l p (left_window n)) → w ≡ sets z right_column (side_numbers r q (right_window n))
-      → w ≡ join_numbers n v l a r b
+  pub row_made : {x y z w : List ℕ} → x ≡ paste (replicate row 0) list_column a l.len → y ≡ paste x (list_column + l.len) b r.len
+      → z ≡ sets (set (set (set y length_column (l.len + r.len)) first_column (2 * v)) kind_column 1) left_column (side_numbers l) → w ≡ sets z right_column (side_numbers r)
+      → w ≡ join_numbers v l a r b
   row_made g h i k = k ∙ rw (i, both_lists g h, e, f)

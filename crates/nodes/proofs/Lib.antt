@@ -1,6 +1,4 @@
 -- Laws of the table of the nodes.
-pub mod Copying
-pub mod Having
 pub mod Placing
 pub mod Leaves
 pub mod Literals

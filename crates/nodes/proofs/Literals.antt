@@ -1,17 +1,19 @@
 -- A side's literals, as the lists of its node have them.
-use mathlib.Core.Path.{◌≡◌, sym, ap, ◌∙◌}
+use mathlib.Core.Path.{◌≡◌, refl, sym, ap, ◌∙◌}
+use mathlib.Core.Bool.{Bool, true, false, cond}
 use mathlib.Core.List.{List, map}
-use Prim.Native.Nat.{ℕ, zero, suc, ◌+◌, ◌-◌, ◌^◌, ◌≤◌}
+use Prim.Native.Nat.{ℕ, zero, suc, ◌+◌, ◌-◌, ◌^◌, ◌≤◌, ◌<◌}
 use native.Mathlib.Omega.{arith}
-use lib.ListN.{length, get_or, take, drop, replicate, length-map, length-take, length-drop}
+use lib.ListN.{length, get_or, take, drop, replicate, length-map, length-drop}
 use lib.Seq.{take-take, take-append-le, drop-append-le}
-use Rattle.sizes.specs.Sizes.{width, row_at, first_column, list_column, list_at}
+use Rattle.sizes.specs.Sizes.{width, row_at, list_column, list_at}
 use Rattle.memo.proofs.Lists.{map_agree}
 use Rattle.totdb.specs.Nodes.{Node, node_at, len, leaves, output, outputs, from_first, range, output_row, part, limited, plain_or, side_len, side_leaves, side_outputs}
 use Rattle.totdb.specs.declared.Side.{Side}
-use Rattle.totdb.proofs.Listed.{length_range, part_range, listed_length, row_length}
+use Rattle.totdb.proofs.Listed.{length_range, part_range, listed_length}
 use Rattle.cert.proofs.Apart.{range_mem}
-use Rattle.rows.proofs.Reading.{row_there, len_is, first_is, list_is, from_first_lem}
+use Rattle.rows.specs.declared.Shown.{Shown}
+use Rattle.rows.proofs.Reading.{row_there, len_is, list_is, from_first_lem}
 use Rattle.nodes.specs.Added.{Sided, Small}
 
 -- ---- the outputs of a node
@@ -28,6 +30,12 @@ outputs_part x f m h =
     ∙ rw e (map_agree (range (f + 1) m) (λ v k. let r = range_mem (f + 1) m v k in sym (from_first_lem x v (omega (arith, r.0)) (omega (arith, r.1)))))
 
 -- ---- a side
+
+plain_cond : (f k : ℕ) (ls os : List ℕ) → cond (plain_or f k true false) ls os ≡ plain_or f k ls os
+unfolding plain_or
+plain_cond zero zero ls os = refl
+plain_cond zero (suc k) ls os = refl
+plain_cond (suc f) k ls os = refl
 
 side_part : (ls : List ℕ) (f k : ℕ) (x : Node) → take (len x) ls ≡ leaves x → len x ≤ width → f + limited k (len x - f) ≤ len x
     → part (plain_or f k (take width ls) (output_row (output x 1) (len x))) f (limited k (len x - f))
@@ -54,49 +62,37 @@ pub side_count : (t : List Node) (s : Side) → length (side_leaves t s) ≡ sid
 unfolding side_leaves side_len side_outputs
 side_count t s = side_long s.offset s.limit (node_at t s.node)
 
-module _ {ns : List ℕ} {t : List Node} {s : Side} {k : ℕ} (d : Sided ns t s k) where
-  pub count_is : k ≡ length (side_leaves t s)
-  count_is = d.length ∙ sym (side_count t s)
+module _ {ns : List ℕ} {t : List Node} {s : Shown} (d : Sided ns t s) where
+  pub count_is : s.len ≡ length (side_leaves t s.side)
+  count_is = d.length ∙ sym (side_count t s.side)
 
-  pub small : Small s
+  pub within : s.side.offset + s.len ≤ width
+  within = omega (arith, d.length, d.inside, (row_there d.table s.side.node d.there).2)
+
+  pub small : s.window < 2 ^ 32 → Small s
   unfolding side_len
-  small =
-      let w : len (node_at t s.node) ≤ width = (row_there d.table s.node d.there).2 in
+  small h =
+      let w : len (node_at t s.side.node) ≤ width = (row_there d.table s.side.node d.there).2 in
       record {
-        node = (row_there d.table s.node d.there).1;
+        node = (row_there d.table s.side.node d.there).1;
         offset = omega (arith, d.inside);
-        limit = omega (arith, d.inside, limit_within s.limit (len (node_at t s.node) - s.offset));
+        limit = omega (arith, d.inside, limit_within s.side.limit (len (node_at t s.side.node) - s.side.offset));
+        len = omega (arith, within);
+        window = h;
       }
 
-  within : s.offset + k ≤ width
-  within = omega (arith, d.length, d.inside, (row_there d.table s.node d.there).2)
-
   -- What the code reads: p is the place of the node's row, m its length.
-  module _ {p m : ℕ} (e : p ≡ row_at s.node) (f : m ≡ get_or ns p 0) where
-    m_is : m ≡ len (node_at t s.node)
-    m_is = f ∙ rw e (len_is d.table s.node d.there)
+  module _ {p m : ℕ} (e : p ≡ row_at s.side.node) (f : m ≡ get_or ns p 0) where
+    m_is : m ≡ len (node_at t s.side.node)
+    m_is = f ∙ rw e (len_is d.table s.side.node d.there)
 
-    one_is : get_or ns (p + first_column) 0 ≡ output (node_at t s.node) 1
-    one_is = rw e (first_is d.table s.node d.there)
-
-    pub outputs_ready : (get_or ns (p + first_column) 0 ≤ 2 ^ 30) × (m ≤ width)
-    outputs_ready = (
-      rw one_is (d.table.bounded.low s.node 1 d.there (omega arith) (omega (arith, d.some))),
-      rw m_is (row_there d.table s.node d.there).2,
-    )
-
-    module _ {os : List ℕ} (g : os ≡ output_row (get_or ns (p + first_column) 0) m) where
-      pub lists_ready : (length (take (p + list_column + width - (p + list_column)) (drop (p + list_column) ns)) ≡ width) × (length os ≡ width) × (s.offset + k ≤ width)
-      lists_ready = (
-        simp (length-take, length-drop) (omega (arith, (row_there d.table s.node d.there).0)),
-        ap length g ∙ row_length (get_or ns (p + first_column) 0) m outputs_ready.1,
-        within,
-      )
-
-      pub literals_are : part (plain_or s.offset s.limit (take (p + list_column + width - (p + list_column)) (drop (p + list_column) ns)) os) s.offset k ≡ side_leaves t s
-      unfolding side_leaves side_len side_outputs
-      literals_are =
-          let all : p + list_column + width - (p + list_column) ≡ width = omega arith in
-          rw (all, g, one_is, m_is, d.length, e)
-          (side_part (drop (list_at s.node) ns) s.offset s.limit (node_at t s.node) (list_is d.table s.node d.there)
-          (row_there d.table s.node d.there).2 d.inside)
+    -- l is the part that the test b gives.
+    pub literals_are : {os l : List ℕ} {b : Bool} → os ≡ output_row s.first m → b ≡ plain_or s.side.offset s.side.limit true false
+        → l ≡ part (cond b (take (p + list_column + width - (p + list_column)) (drop (p + list_column) ns)) os) s.side.offset s.len → l ≡ side_leaves t s.side
+    unfolding side_leaves side_len side_outputs
+    literals_are {os = os} g q is =
+        let all : p + list_column + width - (p + list_column) ≡ width = omega arith in
+        is
+        ∙ rw (q, plain_cond s.side.offset s.side.limit (take (p + list_column + width - (p + list_column)) (drop (p + list_column) ns)) os, all, g, d.first, m_is, d.length, e)
+        (side_part (drop (list_at s.side.node) ns) s.side.offset s.side.limit (node_at t s.side.node) (list_is d.table s.side.node d.there)
+        (row_there d.table s.side.node d.there).2 d.inside)

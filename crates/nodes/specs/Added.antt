@@ -1,9 +1,10 @@
 -- What a node is added to, and the row of a new node.
 use Rattle.std.specs.Prelude.{◌≡◌, false, ◌≢◌, List, [], ◌∷◌, ◌++◌, ℕ, ◌+◌, ◌-◌, ◌*◌, ◌^◌, ◌≤◌, ◌<◌, length, replicate}
-use Rattle.sizes.specs.Sizes.{most_leaves, most_nodes, most_variable, width, left_column, list_column, left_window, right_window}
-use Rattle.totdb.specs.Nodes.{Node, node_at, len, side_len, leaf_count, taken}
+use Rattle.sizes.specs.Sizes.{most_leaves, most_nodes, most_variable, width, left_column, list_column}
+use Rattle.totdb.specs.Nodes.{Node, node_at, len, output, side_len, leaf_count, taken}
 use Rattle.totdb.specs.declared.Side.{Side}
 use Rattle.rows.specs.Rows.{Table}
+use Rattle.rows.specs.declared.Shown.{Shown}
 
 -- Room for a leaf as node n and as leaf k.
 pub record Leafable (ns : List ℕ) (t : List Node) (n k literal : ℕ) : Type 0 where
@@ -31,31 +32,37 @@ pub record Joinable (ns : List ℕ) (t : List Node) (n variable : ℕ) (l r : Si
   pub short : side_len t l + side_len t r ≤ width
   pub low : variable ≤ most_variable
 
--- A side over a node of the table, with its length k.
-pub record Sided (ns : List ℕ) (t : List Node) (s : Side) (k : ℕ) : Type 0 where
+-- A side over a node of the table, as a row has it.
+pub record Sided (ns : List ℕ) (t : List Node) (s : Shown) : Type 0 where
   pub table : Table ns t
-  pub there : s.node < length t
-  pub length : k ≡ side_len t s
-  pub some : s.offset < len (node_at t s.node)
-  pub inside : s.offset + side_len t s ≤ len (node_at t s.node)
+  pub there : s.side.node < length t
+  pub length : s.len ≡ side_len t s.side
+  pub first : s.first ≡ output (node_at t s.side.node) 1
+  pub some : s.side.offset < len (node_at t s.side.node)
+  pub inside : s.side.offset + side_len t s.side ≤ len (node_at t s.side.node)
 
--- A side's numbers, as a row holds them.
-pub record Small (s : Side) : Type 0 where
-  pub node : s.node < most_nodes
-  pub offset : s.offset ≤ width
-  pub limit : s.limit ≤ width
+-- A side's numbers fit where a row holds them.
+pub record Small (s : Shown) : Type 0 where
+  pub node : s.side.node < most_nodes
+  pub offset : s.side.offset ≤ width
+  pub limit : s.side.limit ≤ width
+  pub len : s.len ≤ width
+  pub window : s.window < 2 ^ 32
 
 -- ---- rows
 
 abbrev pub leaf_numbers : ℕ → List ℕ
 leaf_numbers l = 1 ∷ l ∷ 0 ∷ 0 ∷ (replicate (list_column - left_column) 0 ++ (l ∷ replicate (width - 1) 0))
 
--- A side's numbers: with its length, and the place of its window's first steps.
-abbrev pub side_numbers : Side → ℕ → ℕ → List ℕ
-side_numbers s k w = s.node ∷ s.offset ∷ s.limit ∷ k ∷ w ∷ []
+-- A side of a table whose window's first steps stand at w.
+abbrev pub shown_of : List Node → Side → ℕ → Shown
+shown_of t s w = record { side = s; len = side_len t s; first = output (node_at t s.node) 1; window = w }
 
--- The row of the join n of two sides with literals a and b, and outputs from the variable v up.
-abbrev pub join_numbers : ℕ → ℕ → Side → List ℕ → Side → List ℕ → List ℕ
-join_numbers n v l a r b =
-    (length a + length b) ∷ (2 * v) ∷ 1 ∷ 0 ∷ (side_numbers l (length a) (left_window n) ++ (side_numbers r (length b) (right_window n)
-    ++ (a ++ (b ++ replicate (width - length a - length b) 0))))
+-- A side's numbers: with its length, and the place of its window's first steps.
+abbrev pub side_numbers : Shown → List ℕ
+side_numbers s = s.side.node ∷ s.side.offset ∷ s.side.limit ∷ s.len ∷ s.window ∷ []
+
+-- The row of a join of two sides with literals a and b, and outputs from the variable v up.
+abbrev pub join_numbers : ℕ → Shown → List ℕ → Shown → List ℕ → List ℕ
+join_numbers v l a r b =
+    (length a + length b) ∷ (2 * v) ∷ 1 ∷ 0 ∷ (side_numbers l ++ (side_numbers r ++ (a ++ (b ++ replicate (width - length a - length b) 0))))

@@ -8,8 +8,9 @@ ghost use Rattle.sizes.specs.Sizes.{row, row_at, taken_at, width, most_nodes, mo
 ghost use Rattle.totdb.specs.Nodes.{Node, leaf, node_at, len, join_of, joined, part, plain_or, plain_form, side_len, side_leaves, leaf_count};
 ghost use Rattle.totdb.specs.Leaves.{lookup_leaf};
 ghost use Rattle.rows.specs.Rows.{Table};
-ghost use Rattle.nodes.specs.Added.{Leafable, Joinable, Sided, Small, leaf_numbers, side_numbers, join_numbers};
+ghost use Rattle.nodes.specs.Added.{Leafable, Joinable, Sided, Small, shown_of, leaf_numbers, side_numbers, join_numbers};
 
+use rows::Shown;
 use totdb::{LeafLookup, Side};
 
 // The lookup of a leaf by its literal (rustsat's map `lookup_leaf`), from the last made to the first. `count` is the number of
@@ -18,17 +19,20 @@ pub fn lookup_leaf(nodes: &[u32], count: usize, literal: u32) -> LeafLookup
     requires { (t : List Node) × Table nodes.now t × (leaf_count t ≡ count) }
     ensures { (t : List Node) → Table nodes.now t → leaf_count t ≡ count → result ≡ lookup_leaf t literal }
 {
-    let mut i = count;
-    while 0 < i {
-        i = i - 1;
-        if nodes[i] == literal {
-            return LeafLookup::Found(rows::number_at(nodes, sizes::LEAF_NODES + i), count - i);
-        }
+    match nodes[..count].iter().rev().position(|x| *x == literal) {
+        Some(newer) => LeafLookup {
+            node: Some(rows::number_at(nodes, sizes::LEAF_NODES + count - 1 - newer)),
+            looked_at: newer + 1,
+        },
+        None => LeafLookup {
+            node: None,
+            looked_at: count,
+        },
     }
-    LeafLookup::Missing(count)
 }
 
 // A leaf has the literal.
+#[tactic(auto, using(totdb::proofs::Leaves::known_found))]
 pub fn known(nodes: &[u32], count: usize, literal: u32) -> bool
     requires { (t : List Node) × Table nodes.now t × (leaf_count t ≡ count) }
     ensures { (t : List Node) → Table nodes.now t → leaf_count t ≡ count → result ≡ Rattle.totdb.specs.Nodes.known t literal }
@@ -59,9 +63,7 @@ fn put_row(nodes: &mut [u32], node: usize, r: &[u32; sizes::ROW])
     ensures { nodes.new ≡ paste nodes.old (row_at node) r.now row }
 {
     let at = rows::row_at(node);
-    for i in 0..sizes::ROW {
-        nodes[at + i] = r[i];
-    }
+    nodes[at..at + sizes::ROW].copy_from_slice(r);
 }
 
 // The row of a leaf.
@@ -87,85 +89,66 @@ pub fn add_leaf(nodes: &mut [u32], n: usize, k: usize, literal: u32)
     nodes[sizes::LEAF_NODES + k] = n as u32;
 }
 
-// The length of a side.
-fn side_len(nodes: &[u32], s: Side) -> usize
+// A side, as a row has it whose window's first steps stand at `window`.
+#[tactic(auto, using(rows::proofs::Reading::len_is, rows::proofs::Reading::first_is), unfolding(totdb::specs::Nodes::side_len))]
+fn shown(nodes: &[u32], s: Side, window: usize) -> Shown
     requires { (t : List Node) × Table nodes.now t × (s.node < length t) }
-    ensures { (t : List Node) → Table nodes.now t → s.node < length t → result ≡ side_len t s }
+    ensures { (t : List Node) → Table nodes.now t → s.node < length t → result ≡ shown_of t s window }
 {
-    s.len(len(nodes, s.node))
-}
-
-// A side's literals, to a row from `at` on.
-fn copy_side<'a>(
-    leaf_list: &'a [u32],
-    output_list: &'a [u32],
-    r: &mut [u32],
-    at: usize,
-    s: Side,
-    len: usize,
-)
-    requires lists { (length leaf_list.now ≡ width) × (length output_list.now ≡ width) }
-    requires lengths { (s.offset + len ≤ width) × (at + len ≤ length r.old) }
-    ensures { r.new ≡ paste r.old at
-        (part (plain_or s.offset s.limit leaf_list.now output_list.now) s.offset len) len }
-{
-    let l = totdb::literals(leaf_list, output_list, s.is_plain(), s.offset, len);
-    for i in 0..len {
-        r[at + i] = l[i];
+    let row = rows::row_at(s.node);
+    Shown {
+        side: s,
+        len: s.len(rows::number_at(nodes, row)),
+        first: nodes[row + sizes::FIRST],
+        window,
     }
 }
 
-// The same, from the lists of its node.
-fn append_side(nodes: &mut [u32], r: &mut [u32], at: usize, s: Side, len: usize)
-    requires room { at + len ≤ length r.old }
-    requires sided { (t : List Node) × Sided nodes.old t s len }
+// A side's literals, from the lists of its node, to a row from `at` on. The table is lent to be changed, since one lifetime
+// has to fit it and the output list here.
+fn append_side(nodes: &mut [u32], r: &mut [u32], at: usize, s: Shown)
+    requires room { at + s.len ≤ length r.old }
+    requires sided { (t : List Node) × Sided nodes.old t s }
     ensures nodes_unchanged { nodes.new ≡ nodes.old }
-    ensures r_after { (t : List Node) → Sided nodes.old t s len → r.new ≡ paste r.old at (side_leaves t s) len }
+    ensures r_after { (t : List Node) → Sided nodes.old t s → r.new ≡ paste r.old at (side_leaves t s.side) s.len }
 {
-    let node = rows::row_at(s.node);
-    let first = nodes[node + sizes::FIRST];
-    let outputs = totdb::outputs(first, rows::number_at(nodes, node));
-    let list = node + sizes::LIST;
-    copy_side(&nodes[list..list + sizes::WIDTH], &outputs, r, at, s, len);
+    let side = s.side;
+    let row = rows::row_at(side.node);
+    let outputs = totdb::outputs(s.first, rows::number_at(nodes, row));
+    let list = row + sizes::LIST;
+    let leaf_list = &nodes[list..list + sizes::WIDTH];
+    let l = totdb::literals(leaf_list, &outputs, side.is_plain(), side.offset, s.len);
+    r[at..at + s.len].copy_from_slice(l);
 }
 
 // A side's numbers, from `at` on.
-fn put_side(r: &mut [u32], at: usize, s: Side, len: usize, window: usize)
-    requires { (at + 5 ≤ length r.old) × Small s × (len ≤ width) × (window < 4294967296) }
-    ensures { r.new ≡ sets r.old at (side_numbers s len window) }
+fn put_side(r: &mut [u32], at: usize, s: Shown)
+    requires { (at + 5 ≤ length r.old) × Small s }
+    ensures { r.new ≡ sets r.old at (side_numbers s) }
 {
-    r[at] = s.node as u32;
-    r[at + 1] = s.offset as u32;
-    r[at + 2] = s.limit as u32;
-    r[at + sizes::SIDE_LEN] = len as u32;
-    r[at + sizes::SIDE_WINDOW] = window as u32;
+    r[at] = s.side.node as u32;
+    r[at + 1] = s.side.offset as u32;
+    r[at + 2] = s.side.limit as u32;
+    r[at + sizes::SIDE_LEN] = s.len as u32;
+    r[at + sizes::SIDE_WINDOW] = s.window as u32;
 }
 
-// The row of the join n of two sides.
-fn join_row(
-    nodes: &mut [u32],
-    n: usize,
-    variable: u32,
-    l: Side,
-    l_len: usize,
-    r: Side,
-    r_len: usize,
-) -> [u32; sizes::ROW]
-    requires limits { (n < most_nodes) × (variable ≤ most_variable) × (l_len + r_len ≤ width) }
-    requires sided { (t : List Node) × Sided nodes.old t l l_len × Sided nodes.old t r r_len }
+// The row of a join of two sides.
+fn join_row(nodes: &mut [u32], variable: u32, l: Shown, r: Shown) -> [u32; sizes::ROW]
+    requires limits { (variable ≤ most_variable) × (l.len + r.len ≤ width) × (l.window < 4294967296) × (r.window < 4294967296) }
+    requires sided { (t : List Node) × Sided nodes.old t l × Sided nodes.old t r }
     ensures nodes_unchanged { nodes.new ≡ nodes.old }
-    ensures value { (t : List Node) → Sided nodes.old t l l_len → Sided nodes.old t r r_len
-        → result ≡ join_numbers n variable l (side_leaves t l) r (side_leaves t r) }
+    ensures value { (t : List Node) → Sided nodes.old t l → Sided nodes.old t r
+        → result ≡ join_numbers variable l (side_leaves t l.side) r (side_leaves t r.side) }
 {
     let mut row = [0u32; sizes::ROW];
-    append_side(nodes, &mut row, sizes::LIST, l, l_len);
-    append_side(nodes, &mut row, sizes::LIST + l_len, r, r_len);
-    row[sizes::LEN] = (l_len + r_len) as u32;
+    append_side(nodes, &mut row, sizes::LIST, l);
+    append_side(nodes, &mut row, sizes::LIST + l.len, r);
+    row[sizes::LEN] = (l.len + r.len) as u32;
     row[sizes::FIRST] = 2 * variable;
     row[sizes::KIND] = 1;
-    let base = sizes::STORE_START + sizes::STORE_ROW * n;
-    put_side(&mut row, sizes::LEFT, l, l_len, base + sizes::LEFT_WINDOW);
-    put_side(&mut row, sizes::RIGHT, r, r_len, base + sizes::RIGHT_WINDOW);
+    put_side(&mut row, sizes::LEFT, l);
+    put_side(&mut row, sizes::RIGHT, r);
     row
 }
 
@@ -186,13 +169,14 @@ fn put_join(nodes: &mut [u32], n: usize, variable: u32, l: Side, r: Side) -> usi
     ensures { (t : List Node) → Joinable nodes.old t n variable l r
         → (result ≡ len (join_of t variable l r)) × Table nodes.new (t ++ (join_of t variable l r ∷ [])) }
 {
-    let l_len = side_len(nodes, l);
-    let r_len = side_len(nodes, r);
-    let row = join_row(nodes, n, variable, l, l_len, r, r_len);
+    let base = sizes::STORE_START + sizes::STORE_ROW * n;
+    let left = shown(nodes, l, base + sizes::LEFT_WINDOW);
+    let right = shown(nodes, r, base + sizes::RIGHT_WINDOW);
+    let row = join_row(nodes, variable, left, right);
     put_row(nodes, n, &row);
     mark(nodes, l.node);
     mark(nodes, r.node);
-    l_len + r_len
+    left.len + right.len
 }
 
 // A side in its plain form.

@@ -1,22 +1,19 @@
--- `nodes::append_side` meets its contract: the lists that it lends are those of the node.
-use mathlib.Core.Path.{refl}
-use Rattle.nodes.proofs.Literals.{outputs_ready, lists_ready, literals_are}
+-- `nodes::append_side` meets its contract: the part that it copies has the side's literals.
+use Rattle.std.proofs.Common.{arith}
+use mathlib.Core.Path.{ap, ◌∙◌}
+use lib.ListN.{length, length-take, length-drop}
+use Rattle.std.proofs.lemmas.Slice.{put_mid-paste}
+use Rattle.nodes.proofs.Literals.{count_is, literals_are}
 use Rattle.nodes.proofs.append_side.Goals as goal
 
-pub outputs-outputs-requires : goal.outputs-outputs-requires
-outputs-outputs-requires c =
-    outputs_ready c.requires.sided.1 c.row_at-node.ensures c.number_at.ensures.0
+pub copy_from_slice-requires : goal.copy_from_slice-requires
+copy_from_slice-requires c =
+    let d = c.requires.sided.1 in
+    let is = literals_are d c.row_at-row.ensures c.number_at.ensures.0 c.outputs-outputs.ensures c.is_plain.ensures c.literals-l.ensures in
+    simp (length-take, length-drop) (omega (arith, c.requires.room, count_is d, ap length is))
 
-pub copy_side-requires : goal.copy_side-requires
-copy_side-requires c =
-    let ready = lists_ready c.requires.sided.1 c.row_at-node.ensures c.number_at.ensures.0 c.outputs-outputs.ensures in
-    record { lists = (ready.0, ready.1); lengths = (ready.2, c.requires.room) }
-
-pub returns : goal.returns
-returns c =
-    record {
-      nodes_unchanged = refl;
-      r_after = λ t d.
-          rw (literals_are d c.row_at-node.ensures c.number_at.ensures.0 c.outputs-outputs.ensures)
-          at c.copy_side.ensures;
-    }
+pub returns-clause-r_after : goal.returns-clause-r_after
+returns-clause-r_after c =
+    λ t d.
+    let is = literals_are d c.row_at-row.ensures c.number_at.ensures.0 c.outputs-outputs.ensures c.is_plain.ensures c.literals-l.ensures in
+    put_mid-paste _ _ c.args.r.now c.copy_from_slice.new.self _ c.args.s.len (c.copy_from_slice.ensures.after ∙ is) (omega arith) (count_is d)

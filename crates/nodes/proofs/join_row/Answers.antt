@@ -1,30 +1,20 @@
 -- `nodes::join_row` meets its contract: the two lists, then the numbers before them.
 use Rattle.std.proofs.Common.{arith}
-use mathlib.Core.Path.{◌∙◌}
 use lib.ListN.{length-set}
 use Rattle.totdb.specs.Nodes.{side_leaves}
 use Rattle.nodes.proofs.Joining.{row_made}
 use Rattle.nodes.proofs.Literals.{small, count_is}
 use Rattle.nodes.proofs.join_row.Goals as goal
 
-pub append_side-requires-2 : goal.append_side-requires-2
-append_side-requires-2 c =
-    record { room = omega arith; sided = (c.requires.sided.0, rw c.append_side.ensures.nodes_unchanged c.requires.sided.2) }
-
 pub put_side-requires : goal.put_side-requires
-put_side-requires c =
-    (simp length-set (omega arith), small c.requires.sided.1, omega arith, omega arith)
+put_side-requires c = (simp length-set (omega arith), small c.requires.sided.1 (omega arith))
 
 pub put_side-requires-2 : goal.put_side-requires-2
-put_side-requires-2 c =
-    (omega arith, small c.requires.sided.2, omega arith, omega arith)
+put_side-requires-2 c = (omega arith, small c.requires.sided.2 (omega arith))
 
-pub returns : goal.returns
-returns c =
-    record {
-      nodes_unchanged = c.append_side-2.ensures.nodes_unchanged ∙ c.append_side.ensures.nodes_unchanged;
-      value = λ t d f.
-          row_made c.args.n c.args.variable c.args.l c.args.r (side_leaves t c.args.l) (side_leaves t c.args.r) (count_is d) (count_is f)
-          (c.append_side.ensures.r_after t d) (c.append_side-2.ensures.r_after t (rw c.append_side.ensures.nodes_unchanged f)) c.put_side.ensures
-          c.put_side-2.ensures;
-    }
+pub returns-clause-value : goal.returns-clause-value
+returns-clause-value c =
+    λ t d f.
+    row_made c.args.variable c.args.l c.args.r (side_leaves t c.args.l.side) (side_leaves t c.args.r.side) (count_is d) (count_is f)
+    (c.append_side.ensures.r_after t d) (c.append_side-2.ensures.r_after t (rw c.append_side.ensures.nodes_unchanged f)) c.put_side.ensures
+    c.put_side-2.ensures
