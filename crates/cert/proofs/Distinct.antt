@@ -1,6 +1,7 @@
 -- The variables of a table are different: those of a leaf list, of two nodes under no join, and of outputs.
+use Rattle.std.proofs.lemmas.Bool.{true≢false, or_parts, or_left}
 use mathlib.Core.Path.{◌≡◌, refl, sym, ◌∙◌, ap, subst}
-use mathlib.Core.Bool.{Bool, true, false, ◌||◌}
+use mathlib.Core.Bool.{true, false}
 use mathlib.Core.Logic.{◌≢◌, ◌⊎◌, inl, inr, ⊎_elim}
 use mathlib.Core.List.Memᴰ
 use mathlib.Core.List.{List, [], ◌∷◌, ◌++◌, map, Memᴰ}
@@ -89,9 +90,6 @@ distinct_nil = record {
   lefts = λ n h. absurd (omega arith);
 }
 
-pub true≢false : true ≡ false → ⊥
-true≢false e = let z : ◌≡◌ {A = ℕ} 0 1 = cc in omega arith
-
 module _ (t : List Node) (d : Distinct t) where
   -- A literal of n's leaf list is no output of another node that stands under no join.
   pub owner_apart : (n m l j : ℕ) → n < length t → m < length t → n ≢ m → taken t m ≡ false → Memᴰ l (leaves (node_at t n)) → 1 ≤ j → j ≤ len (node_at t m)
@@ -128,18 +126,6 @@ outputs_different x a (suc k) h l = (
   outputs_different x (suc a) k (omega arith) (omega arith),
 )
 
-or_false : (a b : Bool) → (a || b) ≡ false → (a ≡ false) × (b ≡ false)
-or_false true b e = absurd (true≢false e)
-or_false false b e = (refl, e)
-
-pub or_left : (a b : Bool) → a ≡ true → (a || b) ≡ true
-or_left true b e = refl
-or_left false b e = absurd (true≢false (sym e))
-
-pub or_right : (a b : Bool) → b ≡ true → (a || b) ≡ true
-or_right true b e = refl
-or_right false b e = e
-
 module _ (t : List Node) (a : Node) where
   last_or : (n : ℕ) → n < length (t ++ (a ∷ [])) → (n < length t) ⊎ (n ≡ length t)
   last_or n h = by (dec_lt n (length t))
@@ -152,7 +138,7 @@ module _ (t : List Node) (a : Node) where
   old n h = sym (at_more t (a ∷ []) n h)
 
   free_old : (n : ℕ) → taken (t ++ (a ∷ [])) n ≡ false → (taken t n ≡ false) × (is_over n a ≡ false)
-  free_old n e = or_false (taken t n) (is_over n a) (sym (taken_snoc t a n) ∙ e)
+  free_old n e = or_parts (taken t n) (is_over n a) (sym (taken_snoc t a n) ∙ e)
 
   owner_more : (n l : ℕ) → n < length t → Owner t n l → Owner (t ++ (a ∷ [])) n l
   owner_more n l h o = record {

@@ -1,6 +1,7 @@
 -- The tables that leaf and join commands make: each accepted one keeps the sides in place and the literals apart.
+use Rattle.std.proofs.lemmas.List.Recursion.{or_push}
 use mathlib.Core.Path.{◌≡◌, refl, sym, ◌∙◌}
-use mathlib.Core.Bool.{Bool, true, false, ◌||◌}
+use mathlib.Core.Bool.{Bool, true, ◌||◌}
 use mathlib.Core.Logic.{◌≢◌, ◌⊎◌, inl, inr, ⊎_elim}
 use mathlib.Core.List.{List, [], ◌∷◌, ◌++◌}
 use Prim.Native.Nat.{ℕ, zero, suc, ◌+◌, ◌-◌, ◌*◌, ◌≤◌, ◌<◌}
@@ -135,16 +136,7 @@ side_some t s h = by s.limit
 
 pub any_snoc : (f : Node → Bool) (t : List Node) (a : Node) → any f (t ++ (a ∷ [])) ≡ (any f t || f a)
 unfolding any
-any_snoc f [] a = by (f a)
-  where
-    by : (b : Bool) → (b || false) ≡ (false || b)
-    by true = refl
-    by false = refl
-any_snoc f (x ∷ t) a = by (f x) (any_snoc f t a)
-  where
-    by : (b : Bool) → any f (t ++ (a ∷ [])) ≡ (any f t || f a) → (b || any f (t ++ (a ∷ []))) ≡ (b || any f t || f a)
-    by true e = refl
-    by false e = e
+any_snoc f t a = or_push (any f) f refl (λ x xs. refl) t a
 
 pub taken_snoc : (t : List Node) (a : Node) (n : ℕ) → taken (t ++ (a ∷ [])) n ≡ (taken t n || is_over n a)
 unfolding taken

@@ -1,13 +1,14 @@
 -- The sums that an accepted log defines, its derivations worked out, are those of the keys stored, in the order of the log.
+use Rattle.std.proofs.Math.Bool.{or-false}
+use Rattle.std.proofs.lemmas.Bool.{ne_eqb, eq-eqb, or_right}
 use mathlib.Core.Path.{◌≡◌, refl, sym, ◌∙◌, ap, subst}
 use mathlib.Core.Bool.{Bool, true, false, ◌||◌}
-use mathlib.Core.Logic.{◌≢◌}
 use mathlib.Core.List.Memᴰ
 use mathlib.Core.List.{List, [], ◌∷◌, ◌++◌, map, flat_map, append-nil, Memᴰ}
 use mathlib.Core.Option.{Option, none}
 use Prim.Native.Nat.{ℕ, suc, ◌+◌, ◌≤◌, ◌<◌}
 use native.Mathlib.Omega.{arith}
-use lib.Dec.{eqb, eqb→eq, eqb_refl}
+use lib.Dec.{eqb}
 use lib.ListN.{length, get_or, length-append, length-map, get_or-append}
 use lib.Seq.{get_or-append-add}
 use Rattle.pb.specs.Rules.{Token}
@@ -117,24 +118,6 @@ pub record Meant (h : Head) (t : List Node) (s : State) : Type 0 where
   pub means : (sums : ℕ → Option Sum) (all : List Record) → Future h s sums all
       → defined_from sums all h.step s.log ≡ flat_map (defined_by t) (keys s)
 
-or_no : (a b : Bool) → b ≡ false → (a || b) ≡ a
-or_no true b e = refl
-or_no false b e = e
-
-eqb_no : (m n : ℕ) → m ≢ n → eqb m n ≡ false
-eqb_no m n h = by (eqb m n) refl
-  where
-    by : (b : Bool) → eqb m n ≡ b → eqb m n ≡ false
-    by true e = absurd (h (eqb→eq m n (rw e tt)))
-    by false e = e
-
-eqb_yes : (n : ℕ) → eqb n n ≡ true
-eqb_yes n = by (eqb n n) refl
-  where
-    by : (b : Bool) → eqb n n ≡ b → eqb n n ≡ true
-    by true e = e
-    by false e = absurd (rw e at (eqb_refl n))
-
 pub known_length : (h : Head) (s : State) → length (known_of h s) ≡ steps s.log
 known_length h s = sums_length h.step [] s.log ∙ omega arith
 
@@ -149,7 +132,7 @@ future_less h s u rs sums all e f g k =
     record {
       agree = λ j l. k.agree j (rw (w.1, length-append (known_of h s) w.0) (omega arith))
           ∙ rw w.1 (get_or-append (known_of h s) w.0 none j l);
-      named = λ n l. k.named n (omega arith) ∙ rw e (names_append n s.log rs ∙ or_no (names n s.log) (names n rs) (g n l));
+      named = λ n l. k.named n (omega arith) ∙ rw e (names_append n s.log rs ∙ rw (g n l) (or-false (names n s.log)));
     }
 
 module _ (h : Head) (t : List Node) (d : Distinct t) (s : State) (k : Meant h t s) where
@@ -157,7 +140,7 @@ module _ (h : Head) (t : List Node) (d : Distinct t) (s : State) (k : Meant h t 
   meant_define j g b = record {
     known_sums = known_define h t d s k.known_sums j g b;
     fresh = λ n l. rw log_is
-        (names_append n s.log rs ∙ or_no (names n s.log) (names n rs) (shape_names shape n) ∙ k.fresh n (omega (arith, next_is)));
+        (names_append n s.log rs ∙ rw (shape_names shape n) (or-false (names n s.log)) ∙ k.fresh n (omega (arith, next_is)));
     means = means';
   }
     where
@@ -188,7 +171,7 @@ module _ (h : Head) (t : List Node) (d : Distinct t) (s : State) (k : Meant h t 
           shape_from sums all (h.step + steps s.log) shape
           (λ i l. f.named (h.step + steps s.log + i) (omega (arith, next_is))
           ∙ rw log_is (names_append (h.step + steps s.log + i) s.log (key_records (step_in s.stored) t j)
-          ∙ or_no (names (h.step + steps s.log + i) s.log) _ (shape_names shape (h.step + steps s.log + i))
+          ∙ rw (shape_names shape (h.step + steps s.log + i)) (or-false (names (h.step + steps s.log + i) s.log))
           ∙ k.fresh (h.step + steps s.log + i) (omega arith)))
           (λ i l. right sums f i l) in
           ap (defined_from sums all h.step) log_is
@@ -211,7 +194,7 @@ module _ (h : Head) (t : List Node) (d : Distinct t) (s : State) (k : Meant h t 
       → ((sums : ℕ → Option Sum) (all : List Record) → Future h u sums all → defined_from sums all (h.step + steps s.log) rs ≡ []) → Meant h t u
   meant_more u rs e f g low high silent = record {
     known_sums = known_more h t d s k.known_sums u rs e f g;
-    fresh = λ n l. rw e (names_append n s.log rs ∙ or_no (names n s.log) (names n rs) (high n l) ∙ k.fresh n (omega arith));
+    fresh = λ n l. rw e (names_append n s.log rs ∙ rw (high n l) (or-false (names n s.log)) ∙ k.fresh n (omega arith));
     means = λ sums all F.
         ap (defined_from sums all h.step) e
         ∙ from_append sums all h.step s.log rs
@@ -223,18 +206,10 @@ module _ (h : Head) (t : List Node) (d : Distinct t) (s : State) (k : Meant h t 
   unfolding names
   clause_names n m ks ls = refl
 
-  or_nil : (b : Bool) → (b || false) ≡ b
-  or_nil true = refl
-  or_nil false = refl
-
   clause_silent : (sums : ℕ → Option Sum) (all : List Record) (n m : ℕ) (ks : List Token) (ls : List ℕ) → names n all ≡ true
       → defined_from sums all n (derivation ks ∷ clause m ls ∷ []) ≡ []
   unfolding defined_from
   clause_silent sums all n m ks ls e = rw (e, defined_from)
-
-  or_true : (a b : Bool) → b ≡ true → (a || b) ≡ true
-  or_true true b e = refl
-  or_true false b e = e
 
   meant_write : (c : Clause) → Meant h t (write t c s)
   meant_write c =
@@ -242,9 +217,9 @@ module _ (h : Head) (t : List Node) (d : Distinct t) (s : State) (k : Meant h t 
       let rs : List Record = derivation ks ∷ clause s.next_step c.literals ∷ [] in
       let next = k.known_sums.next in
       meant_more (write t c s) rs (unfold write in refl) (unfold write in refl) (unfold write steps in refl)
-      (λ n l. clause_names n s.next_step ks c.literals ∙ or_nil (eqb s.next_step n) ∙ eqb_no s.next_step n (λ e. absurd (omega arith)))
-      (λ n l. clause_names n s.next_step ks c.literals ∙ or_nil (eqb s.next_step n)
-      ∙ eqb_no s.next_step n (λ e. absurd (omega (arith, after c))))
+      (λ n l. clause_names n s.next_step ks c.literals ∙ or-false (eqb s.next_step n) ∙ ne_eqb s.next_step n (λ e. absurd (omega arith)))
+      (λ n l. clause_names n s.next_step ks c.literals ∙ or-false (eqb s.next_step n)
+      ∙ ne_eqb s.next_step n (λ e. absurd (omega (arith, after c))))
       (λ sums all F. clause_silent sums all (h.step + steps s.log) s.next_step ks c.literals (named_here c sums all F))
     where
       after : (c : Clause) → (write t c s).next_step ≡ s.next_step + 1
@@ -259,9 +234,9 @@ module _ (h : Head) (t : List Node) (d : Distinct t) (s : State) (k : Meant h t 
           let e : h.step + steps s.log ≡ s.next_step = sym k.known_sums.next in
           rw e (F.named s.next_step (omega (arith, after c))
           ∙ rw (log_is c) (names_append s.next_step s.log _
-          ∙ or_true (names s.next_step s.log) _
+          ∙ or_right (names s.next_step s.log) _
           (clause_names s.next_step s.next_step (clause_tokens (step_in s.stored) t c) c.literals
-          ∙ or_nil (eqb s.next_step s.next_step) ∙ eqb_yes s.next_step)))
+          ∙ or-false (eqb s.next_step s.next_step) ∙ eq-eqb s.next_step s.next_step refl)))
 
   meant_hold : (x : Request) → Meant h t (hold x s)
   meant_hold x = meant_more (hold x s) [] (unfold hold in sym (append-nil s.log)) (unfold hold in refl) (unfold hold steps in omega arith)

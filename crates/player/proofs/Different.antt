@@ -1,4 +1,5 @@
 -- Accepted commands keep the variables of the table different: nodes stand under one join each.
+use Rattle.std.proofs.lemmas.Bool.{true≢false, or_left, or_right}
 use mathlib.Core.Path.{◌≡◌, refl, sym, ◌∙◌, ap, subst}
 use mathlib.Core.Bool.{Bool, true, false}
 use mathlib.Core.Logic.{◌≢◌, ◌⊎◌, inl, inr, ⊎_elim}
@@ -14,7 +15,7 @@ use Rattle.totdb.specs.Nodes.{Node, len, node_at, output, leaf, taken, leaves, j
 use Rattle.totdb.specs.declared.Side.{Side}
 use Rattle.cert.specs.State.{State, requests, Head}
 use Rattle.cert.proofs.Apart.{range_mem, sized_ok}
-use Rattle.cert.proofs.Distinct.{Different, different_append, LeftApart, Owner, Distinct, true≢false, or_left, or_right, owner_apart, old, distinct_snoc, shifted, higher}
+use Rattle.cert.proofs.Distinct.{Different, different_append, LeftApart, Owner, Distinct, owner_apart, old, distinct_snoc, shifted, higher}
 use Rattle.cert.proofs.Tables.{length_snoc, at_last, taken_snoc, over_left, over_right}
 use Rattle.player.specs.Formed.{Sound}
 use Rattle.player.specs.Player.{first_no, questions, act, make, delete}

@@ -1,4 +1,5 @@
 -- Theorems about scripts and the player.
+pub mod Refusals
 pub mod Questions
 pub mod Reading
 pub mod Places

@@ -1,4 +1,5 @@
 -- Accepted commands keep the table well made: its sides fit, and its literals are numbered apart.
+use Rattle.std.proofs.lemmas.Bool.{true≢false}
 use mathlib.Core.Path.{◌≡◌, refl, sym, ◌∙◌, ap, subst}
 use mathlib.Core.Bool.{Bool, true, false}
 use mathlib.Core.Logic.{⊎_elim, ◌≢◌}
@@ -19,7 +20,6 @@ use Rattle.cert.specs.Requests.{Request, node_of, request, Right}
 use Rattle.cert.specs.Sized.{Fit}
 use Rattle.cert.specs.State.{State, start, requests, directions, serve, define, write, hold, Head}
 use Rattle.cert.proofs.Apart.{sized_ok}
-use Rattle.cert.proofs.Distinct.{true≢false}
 use Rattle.cert.proofs.Rules.{In, Ok}
 use Rattle.cert.proofs.Serving.{Asked, serve_in}
 use Rattle.cert.proofs.Tables.{sized_nil, numbered_nil, sized_snoc, numbered_leaf, old_or_new, numbered_join, side_some}

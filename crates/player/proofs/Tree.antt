@@ -1,7 +1,8 @@
 -- Each node stands under at most one join, so a join is as long as there are leaves at most, and there are fewer joins than leaves:
 -- nodes are few and variables stay low.
+use Rattle.std.proofs.Math.Bool.{or-false, or-true}
 use mathlib.Core.Path.{◌≡◌, refl, sym, ◌∙◌, ap, subst}
-use mathlib.Core.Bool.{Bool, true, false, ◌||◌}
+use mathlib.Core.Bool.{Bool, true, false}
 use mathlib.Core.Logic.{◌≢◌}
 use mathlib.Core.List.{List, [], ◌∷◌, ◌++◌}
 use Prim.Native.Nat.{ℕ, zero, suc, ◌+◌, ◌*◌, ◌≤◌, ◌<◌}
@@ -70,27 +71,19 @@ taken_out t ok n h = any_false (is_over n) t (λ i l. by i l (node_at t i) (ok i
     by i l (join ls o a c) b = let k : (a.node < i) × (c.node < i) = unfold Below in b in
         over_no n ls o a c (λ e. absurd (omega (arith, k.0))) (λ e. absurd (omega (arith, k.1)))
 
-or_false : (b : Bool) → (b || false) ≡ b
-or_false true = refl
-or_false false = refl
-
-or_true : (b : Bool) → (b || true) ≡ true
-or_true true = refl
-or_true false = refl
-
 -- A new node changes the share of those alone that it stands over.
 share_snoc : (w : Node → ℕ) (t : List Node) (a : Node) (n : ℕ) → n < length t → is_over n a ≡ false → share w (t ++ (a ∷ [])) n ≡ share w t n
 share_snoc w t a n h e = by (taken t n) refl
   where
     same : taken (t ++ (a ∷ [])) n ≡ taken t n
-    same = taken_snoc t a n ∙ rw e (or_false (taken t n))
+    same = taken_snoc t a n ∙ rw e (or-false (taken t n))
 
     by : (b : Bool) → taken t n ≡ b → share w (t ++ (a ∷ [])) n ≡ share w t n
     by true k = share_taken w (t ++ (a ∷ [])) n (same ∙ k) ∙ sym (share_taken w t n k)
     by false k = share_free w (t ++ (a ∷ [])) n (same ∙ k) ∙ ap w (sym (at_more t (a ∷ []) n h)) ∙ sym (share_free w t n k)
 
 share_over : (w : Node → ℕ) (t : List Node) (a : Node) (n : ℕ) → is_over n a ≡ true → share w (t ++ (a ∷ [])) n ≡ 0
-share_over w t a n e = share_taken w (t ++ (a ∷ [])) n (taken_snoc t a n ∙ rw e (or_true (taken t n)))
+share_over w t a n e = share_taken w (t ++ (a ∷ [])) n (taken_snoc t a n ∙ rw e (or-true (taken t n)))
 
 share_last : (w : Node → ℕ) (t : List Node) (a : Node) → Ok t → is_over (length t) a ≡ false → share w (t ++ (a ∷ [])) (length t) ≡ w a
 share_last w t a ok e = share_free w (t ++ (a ∷ [])) (length t) (taken_snoc t a (length t) ∙ rw (e, taken_out t ok (length t) (omega arith)))

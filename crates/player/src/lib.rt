@@ -1,5 +1,5 @@
-// A script read at a place. `specs/Script.antt` says what its bytes are, `specs/Places.antt` what
-// stands at a place.
+// A script read at a place, and why one is refused. `specs/Script.antt` says what its bytes are,
+// `specs/Places.antt` what stands at a place, `specs/Refusals.antt` which number a refusal has.
 #![tactic(auto)]
 
 ghost use Rattle.std.specs.Prelude.{◌≡◌, ◌≤◌, length};
@@ -85,6 +85,7 @@ fn side(script: &[u8], at: usize) -> Option<(Side, usize)>
     ensures { result ≡ side_at script.now at }
 {
     let ((node, offset, limit), end) = triple(script, at)?;
+    // `as`, since `usize` has no `From<u32>`
     let s = Side {
         node: node as usize,
         offset: offset as usize,

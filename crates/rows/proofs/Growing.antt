@@ -1,4 +1,5 @@
 -- A table with one node more: what holds of its nodes alone, and what its numbers say.
+use Rattle.std.proofs.lemmas.Bool.{true≢false, or_right}
 use mathlib.Core.Path.{◌≡◌, refl, sym, ap, subst, ◌∙◌}
 use mathlib.Core.Bool.{Bool, true, false, cond}
 use mathlib.Core.Logic.{◌≢◌, ⊎_elim}
@@ -14,7 +15,6 @@ use Rattle.totdb.specs.Nodes.{Node, leaf, join, node_at, len, output, range, lea
 use Rattle.totdb.specs.Leaves.{leaf_table}
 use Rattle.totdb.specs.declared.Side.{Side}
 use Rattle.cert.specs.Sized.{Sized, Fit}
-use Rattle.cert.proofs.Distinct.{true≢false, or_right}
 use Rattle.cert.proofs.Rules.{at_more, side_len-more}
 use Rattle.cert.proofs.Tables.{at_snoc, length_snoc, old_or_new, sized_snoc, over_left}
 use Rattle.rows.specs.Windows.{SideAt, at_left, at_right}
