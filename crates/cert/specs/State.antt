@@ -5,6 +5,7 @@ use Rattle.std.specs.Prelude.{ℕ, zero, suc, ◌+◌}
 use Rattle.memo.specs.Visit.{each, ask, batch}
 use Rattle.record.specs.Record.{Record, derivation, clause, steps}
 use Rattle.totdb.specs.Nodes.{Node, range}
+use Rattle.cert.specs.declared.Head.{Head as Declared·Head}
 use Rattle.cert.specs.Definitions.{Direction, if, only_if, Key, real, window_zero, window, pulls, key_records}
 use Rattle.cert.specs.Equal.{request_dec, key_dec, key_rank}
 use Rattle.cert.specs.Requests.{Request, request, node_of, needs, Clause, clauses_of, looks_of, clause_tokens}
@@ -24,9 +25,8 @@ pub record State : Type 0 where
   pub log : List Record
 
 -- The head of a script: first output variable, first step number.
-pub record Head : Type 0 where
-  pub variable : ℕ
-  pub step : ℕ
+abbrev pub Head : Type 0
+Head = Declared·Head
 
 -- From no nodes, nothing held or defined and an empty log.
 unfoldable pub start : Head → State

@@ -1,10 +1,11 @@
 -- The end of a command: accepted with all that it wrote, or refused with the log as it was up to its length.
-use mathlib.Core.Path.{◌≡◌, refl, sym, ◌∙◌, subst}
+use mathlib.Core.Path.{◌≡◌, sym, ◌∙◌, subst}
 use mathlib.Core.List.{List}
 use Prim.Native.Nat.{ℕ, ◌≤◌, ◌<◌}
 use native.Mathlib.Omega.{arith}
 use borrow.Author.Tests.{lt-ltb, le-ltb}
 use lib.ListN.{length, get_or}
+use Rattle.std.specs.Prelude.{Result, Ok, Err}
 use Rattle.sizes.specs.Sizes.{step_at, clauses_at}
 use Rattle.record.specs.Record.{bytes}
 use Rattle.record.specs.Writing.{buffer, Onward}
@@ -14,12 +15,16 @@ use Rattle.cert.specs.State.{State, Head}
 use Rattle.define.specs.Represents.{memory, Exact, Represents, exact, over}
 use Rattle.define.proofs.Simulates.{open_log}
 use Rattle.player.specs.Player.{first_no, questions, act}
+use Rattle.player.specs.Refusals.{number_of}
 use Rattle.player.specs.declared.Command.{Command}
+use Rattle.player.specs.declared.Refusal.{Refusal}
 use Rattle.player.proofs.Formed.{formed_act}
-use Rattle.player.proofs.Refusal.{play_stops, play_goes, play_over}
+use Rattle.player.proofs.Plays.{play_stops, play_goes, play_over}
 use Rattle.commands.specs.Standing.{Standing, Reported, Played, went, stopped, end_of}
-use Rattle.commands.specs.declared.CommandEnd.{CommandEnd}
 use Rattle.commands.specs.declared.Totals.{Totals}
+
+refusal_numbered : (r : Refusal) → 0 < number_of r
+refusal_numbered = grind arith
 
 exact_fits : {c : ℕ} {t : List Node} {store log : List ℕ} {a : ℕ} {s : State} → Exact c t (memory store log a) s → length (bytes s.log) ≤ c
 exact_fits {log = log} {a = a} x = omega (arith, content_length log a x.logged.is, open_log x, x.logged.size)
@@ -43,15 +48,15 @@ module _ {h : Head} {c : ℕ} {ns store log : List ℕ} {z : Totals} {s : State}
   reported = kept log z.at stays
 
   -- One of questions 6 to 12 is answered no, and nothing is changed.
-  pub refused_early : (k : Command) (n : ℕ) → 0 < n → first_no (questions h s.nodes k) ≡ n → (e : CommandEnd) → e.number ≡ n → e.totals ≡ z
-      → Played h c k s ns store log e
-  refused_early k n p q e a b = stopped n (play_stops h c k s n p q) a (subst (λ (y : Totals). Reported c log y s) (sym b) reported)
+  pub refused_early : (k : Command) (r : Refusal) → number_of r ≡ first_no (questions h s.nodes k) → (e : Result Totals Refusal) → e ≡ Err r
+      → Played h c k s z ns store log e
+  refused_early k r q e a = stopped r (play_stops h c k s (number_of r) (refusal_numbered r) (sym q)) a reported
 
   -- A command that changes no node, and came to the place a, with the step and the clauses that the store has.
   module _ (k : Command) (asked : first_no (questions h s.nodes k) ≡ 0) (same_nodes : (act k s).nodes ≡ s.nodes)
       (same_variable : (act k s).next_variable ≡ s.next_variable) (store' log' : List ℕ) (a : ℕ)
       (r : Represents c s.nodes (memory store' log' a) (act k s)) (on : Onward (buffer log z.at) (buffer log' a))
-      (e : CommandEnd) (is : e ≡ end_of (length log') z a (get_or store' step_at 0) (get_or store' clauses_at 0)) where
+      (e : Result Totals Refusal) (is : e ≡ end_of (length log') z a (get_or store' step_at 0) (get_or store' clauses_at 0)) where
     abbrev moved : Totals
     moved = record {
       at = a;
@@ -62,14 +67,14 @@ module _ {h : Head} {c : ℕ} {ns store log : List ℕ} {z : Totals} {s : State}
       variable = z.variable;
     }
 
-    pub ends : Played h c k s ns store' log' e
+    pub ends : Played h c k s z ns store' log' e
     unfolding end_of
     ends = by r
       where
-        by : Represents c s.nodes (memory store' log' a) (act k s) → Played h c k s ns store' log' e
+        by : Represents c s.nodes (memory store' log' a) (act k s) → Played h c k s z ns store' log' e
         by (exact x) =
-            let q : e ≡ record { number = 0; totals = moved } = is ∙ rw (le-ltb (length log') a (open_log x)) in
-            rw q (went (act k s) (play_goes h c k s asked (exact_fits x)) refl (record {
+            let q : e ≡ Ok moved = is ∙ rw (le-ltb (length log') a (open_log x)) in
+            went (act k s) moved (play_goes h c k s asked (exact_fits x)) q (record {
               formed = formed_act h k s asked st.formed;
               table = rw same_nodes st.table;
               exact = subst (λ (t : List Node). Exact c t (memory store' log' a) (act k s)) (sym same_nodes) x;
@@ -78,7 +83,7 @@ module _ {h : Head} {c : ℕ} {ns store log : List ℕ} {z : Totals} {s : State}
               nodes = rw same_nodes st.nodes;
               leaves = rw same_nodes st.leaves;
               variable = rw same_variable st.variable;
-            }))
+            })
         by (over x) =
-            let q : e ≡ record { number = 14; totals = z } = is ∙ rw (lt-ltb (length log') a (omega (arith, x.size, x.past))) in
-            rw q (stopped 14 (play_over h c k s asked x.more) refl (kept log' a on))
+            let q : e ≡ Err Refusal.LogFull = is ∙ rw (lt-ltb (length log') a (omega (arith, x.size, x.past))) in
+            stopped Refusal.LogFull (play_over h c k s asked x.more) q (kept log' a on)

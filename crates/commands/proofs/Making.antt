@@ -5,6 +5,7 @@ use mathlib.Core.List.{List, [], ◌∷◌, ◌++◌}
 use Prim.Native.Nat.{ℕ, ◌+◌, ◌≤◌, ◌<◌}
 use native.Mathlib.Omega.{arith}
 use lib.ListN.{length, length-append}
+use Rattle.std.specs.Prelude.{Result, Ok}
 use Rattle.pb.specs.Sum.{variable}
 use Rattle.sizes.specs.Sizes.{most_leaves, most_variable}
 use Rattle.totdb.specs.Nodes.{Node, leaf, joined, node_at, leaves, len, known, leaf_count, plain_form, side_len, side_leaves}
@@ -18,32 +19,35 @@ use Rattle.nodes.specs.Added.{Leafable, Joinable}
 use Rattle.player.specs.Formed.{Formed}
 use Rattle.player.specs.Player.{first_no, questions, act, make, accepted}
 use Rattle.player.specs.declared.Command.{Command}
+use Rattle.player.specs.declared.Refusal.{Refusal}
 use Rattle.player.proofs.Formed.{formed_act, head_low}
 use Rattle.player.proofs.Sound.{JoinFits, join_fits, side_leaves-length, plain_side_len}
 use Rattle.player.proofs.Tree.{few_nodes_lem, few_variables, treed_act}
-use Rattle.player.proofs.Refusal.{play_goes}
+use Rattle.player.proofs.Plays.{play_goes}
 use Rattle.commands.specs.Standing.{Standing, Room, Played, went}
-use Rattle.commands.specs.declared.CommandEnd.{CommandEnd}
 use Rattle.commands.specs.declared.Totals.{Totals}
 use Rattle.commands.proofs.CommandEnds.{fits}
 use Rattle.commands.proofs.NodeMore.{exact_make}
 
 module _ {h : Head} {c : ℕ} {ns store log : List ℕ} {z : Totals} {s : State} (st : Standing h c ns (memory store log z.at) z s) where
+  -- The totals with a node more, and these leaves and this next variable.
+  abbrev more : ℕ → ℕ → Totals
+  more n v = record { at = z.at; step = z.step; clauses = z.clauses; nodes = z.nodes + 1; leaves = n; variable = v }
+
   -- A command that makes the node a.
   module _ (k : Command) (asked : first_no (questions h s.nodes k) ≡ 0) (a : Node) (i : ℕ) (is : act k s ≡ make a i s)
-      (room : Room ns store z.nodes) (ns' : List ℕ) (table : Table ns' (s.nodes ++ (a ∷ []))) (e : CommandEnd) (number : e.number ≡ 0)
-      (place : e.totals.at ≡ z.at) (step : e.totals.step ≡ z.step) (clauses : e.totals.clauses ≡ z.clauses) (nodes : e.totals.nodes ≡ length (s.nodes ++ (a ∷ [])))
-      (leaves : e.totals.leaves ≡ leaf_count (s.nodes ++ (a ∷ []))) (next : e.totals.variable ≡ s.next_variable + i) where
-    after : Standing h c ns' (memory store log z.at) e.totals (make a i s)
+      (room : Room ns store z.nodes) (ns' : List ℕ) (table : Table ns' (s.nodes ++ (a ∷ []))) (n v : ℕ) (leaves : n ≡ leaf_count (s.nodes ++ (a ∷ [])))
+      (next : v ≡ s.next_variable + i) where
+    after : Standing h c ns' (memory store log z.at) (more n v) (make a i s)
     unfolding make
     after = record {
       formed = subst (λ (u : State). Formed h u) is (formed_act h k s asked st.formed);
       table = table;
       exact =
           exact_make s.nodes a st.table.bounded table.bounded i (omega (arith, room.store_row, st.nodes)) st.formed.held st.exact;
-      step = step ∙ st.step;
-      clauses = clauses ∙ st.clauses;
-      nodes = nodes;
+      step = st.step;
+      clauses = st.clauses;
+      nodes = omega (arith, st.nodes, length_snoc s.nodes a);
       leaves = leaves;
       variable = next;
     }
@@ -51,23 +55,19 @@ module _ {h : Head} {c : ℕ} {ns store log : List ℕ} {z : Totals} {s : State}
     same_log : (act k s).log ≡ s.log
     same_log = rw is (unfold make in refl)
 
-    makes : Played h c k s ns' store log e
-    makes =
-        went (act k s)
-        (play_goes h c k s asked (rw same_log (fits st))) number
-        (subst (λ (p : ℕ). Standing h c ns' (memory store log p) e.totals (act k s)) (sym place)
-        (subst (λ (u : State). Standing h c ns' (memory store log z.at) e.totals u) (sym is) after))
+    makes : (e : Result Totals Refusal) → e ≡ Ok (more n v) → Played h c k s z ns' store log e
+    makes e ends =
+        went (act k s) (more n v) (play_goes h c k s asked (rw same_log (fits st))) ends
+        (subst (λ (u : State). Standing h c ns' (memory store log z.at) (more n v) u) (sym is) after)
 
   -- ---- a leaf
 
   -- A leaf that is there already.
-  pub leaf_there : (l : ℕ) → first_no (questions h s.nodes (Command.Leaf l)) ≡ 0 → known s.nodes l ≡ true → (e : CommandEnd) → e.number ≡ 0
-      → e.totals ≡ z → Played h c (Command.Leaf l) s ns store log e
-  leaf_there l asked there e a b =
+  pub leaf_there : (l : ℕ) → first_no (questions h s.nodes (Command.Leaf l)) ≡ 0 → known s.nodes l ≡ true → (e : Result Totals Refusal) → e ≡ Ok z
+      → Played h c (Command.Leaf l) s z ns store log e
+  leaf_there l asked there e ends =
       let same : act (Command.Leaf l) s ≡ s = unfold act in rw (there, act) in
-      went s
-      (play_goes h c (Command.Leaf l) s asked (rw same (fits st)) ∙ ap accepted same) a
-      (rw b st)
+      went s z (play_goes h c (Command.Leaf l) s asked (rw same (fits st)) ∙ ap accepted same) ends st
 
   pub leafable : (l : ℕ) → variable l < h.variable → z.leaves < most_leaves → Leafable ns s.nodes z.nodes z.leaves l
   unfolding variable
@@ -81,31 +81,24 @@ module _ {h : Head} {c : ℕ} {ns store log : List ℕ} {z : Totals} {s : State}
   }
 
   pub leaf_made : (l : ℕ) → first_no (questions h s.nodes (Command.Leaf l)) ≡ 0 → known s.nodes l ≡ false
-      → Room ns store z.nodes → (ns' : List ℕ) → Table ns' (s.nodes ++ (leaf l ∷ [])) → (e : CommandEnd) → e.number ≡ 0 → e.totals.at ≡ z.at
-      → e.totals.step ≡ z.step → e.totals.clauses ≡ z.clauses → e.totals.nodes ≡ z.nodes + 1 → e.totals.leaves ≡ z.leaves + 1 → e.totals.variable ≡ z.variable
-      → Played h c (Command.Leaf l) s ns' store log e
-  leaf_made l asked new room ns' table e a b d f p q r =
-      makes (Command.Leaf l) asked (leaf l) 0 (unfold act in rw (new, act)) room ns' table e a b d f
-      (omega (arith, p, st.nodes, length_snoc s.nodes (leaf l))) (omega (arith, q, st.leaves, leaf_count-leaf s.nodes l))
-      (omega (arith, r, st.variable))
+      → Room ns store z.nodes → (ns' : List ℕ) → Table ns' (s.nodes ++ (leaf l ∷ [])) → (e : Result Totals Refusal)
+      → e ≡ Ok (more (z.leaves + 1) z.variable) → Played h c (Command.Leaf l) s z ns' store log e
+  leaf_made l asked new room ns' table =
+      makes (Command.Leaf l) asked (leaf l) 0 (unfold act in rw (new, act)) room ns' table _ _
+      (omega (arith, st.leaves, leaf_count-leaf s.nodes l)) (omega (arith, st.variable))
 
   -- ---- a join
 
   pub join_made : (l r : Side) → first_no (questions h s.nodes (Command.Join l r)) ≡ 0 → Room ns store z.nodes
-      → (ns' : List ℕ) → Table ns' (s.nodes ++ (joined s.nodes z.variable l r ∷ []))
-      → (e : CommandEnd) → e.number ≡ 0 → e.totals.at ≡ z.at → e.totals.step ≡ z.step → e.totals.clauses ≡ z.clauses → e.totals.nodes ≡ z.nodes + 1 → e.totals.leaves ≡ z.leaves
-      → e.totals.variable ≡ z.variable + len (joined s.nodes z.variable l r)
-      → Played h c (Command.Join l r) s ns' store log e
-  join_made l r asked room ns' table e a b d f p q v =
+      → (ns' : List ℕ) → Table ns' (s.nodes ++ (joined s.nodes z.variable l r ∷ [])) → (v : ℕ) → v ≡ z.variable + len (joined s.nodes z.variable l r)
+      → (e : Result Totals Refusal) → e ≡ Ok (more z.leaves v) → Played h c (Command.Join l r) s z ns' store log e
+  join_made l r asked room ns' table v next =
       let x : Node = joined s.nodes z.variable l r in
       let same : leaf_count (s.nodes ++ (joined s.nodes z.variable l r ∷ [])) ≡ leaf_count s.nodes =
       unfold joined in leaf_count-join s.nodes _ z.variable _ _ in
       let is : act (Command.Join l r) s ≡ make x (len x) s =
       unfold act in ap (λ (o : ℕ). make (joined s.nodes o l r) (len (joined s.nodes o l r)) s) (sym st.variable) in
-      makes (Command.Join l r) asked x (len x) is room ns' table e a b d f
-      (omega (arith, p, st.nodes, length_snoc s.nodes x))
-      (omega (arith, q, st.leaves, same))
-      (omega (arith, v, st.variable))
+      makes (Command.Join l r) asked x (len x) is room ns' table _ _ (omega (arith, st.leaves, same)) (omega (arith, next, st.variable))
 
   -- Two sides that pass their questions may be joined, and their join has 64 outputs at most.
   module _ (l r : Side) (asked : first_no (questions h s.nodes (Command.Join l r)) ≡ 0) where

@@ -2,7 +2,7 @@
 use mathlib.Core.Path.{◌≡◌, refl, sym, ◌∙◌, ap}
 use mathlib.Core.Bool.{Bool, true, false}
 use mathlib.Core.List.{List}
-use Prim.Native.Nat.{ℕ, ◌-◌, ◌≤◌, ◌<◌}
+use Prim.Native.Nat.{ℕ, ◌≤◌, ◌<◌}
 use native.Mathlib.Omega.{arith}
 use borrow.Author.Tests.{lt-ltb, le-ltb, le-leb, lt-leb, eq-eqb, ne_eqb}
 use lib.ListN.{length}
@@ -90,19 +90,6 @@ module _ (h : Head) (t : List Node) (n v d : ℕ) where
         pub request_many : 3 < d → first_no (questions h t (Command.Request n v d)) ≡ 12
         unfolding questions first_no
         request_many p = rw (lt-ltb n (length t) there, le-leb 1 v above, le-leb v (len (node_at t n)) within, le-leb 1 d some, lt-leb d 3 p)
-
--- ---- one side
-
-module _ (s : Side) (n : ℕ) where
-  pub fits_offset : n ≤ s.offset → fits_over s n ≡ false
-  fits_offset p = rw (le-ltb s.offset n p)
-
-  module _ (below : s.offset < n) where
-    pub fits_limit : n - s.offset < s.limit → fits_over s n ≡ false
-    fits_limit p = rw (lt-ltb s.offset n below, lt-leb s.limit (n - s.offset) p)
-
-    pub fits_within : s.limit ≤ n - s.offset → fits_over s n ≡ true
-    fits_within p = rw (lt-ltb s.offset n below, le-leb s.limit (n - s.offset) p)
 
 -- ---- a side of the nodes
 

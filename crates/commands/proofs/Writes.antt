@@ -5,6 +5,7 @@ use mathlib.Core.List.{List, [], ◌∷◌, flat_map, append-nil}
 use Prim.Native.Nat.{ℕ}
 use native.Mathlib.Omega.{arith}
 use lib.ListN.{length, get_or}
+use Rattle.std.specs.Prelude.{Result}
 use Rattle.sizes.specs.Sizes.{marks_at, step_at, clauses_at}
 use Rattle.record.specs.Record.{Record, deletion, numbers, steps, bytes, clauses}
 use Rattle.record.specs.Writing.{buffer, Puts}
@@ -19,9 +20,9 @@ use Rattle.closing.specs.Closing.{MarkedKeys}
 use Rattle.request.specs.Asked.{RequestIn}
 use Rattle.player.specs.Player.{first_no, questions, act, delete}
 use Rattle.player.specs.declared.Command.{Command}
+use Rattle.player.specs.declared.Refusal.{Refusal}
 use Rattle.player.proofs.Sound.{RequestFits, request_fits, requests_asked, serve_nodes}
 use Rattle.commands.specs.Standing.{Standing, Played, end_of}
-use Rattle.commands.specs.declared.CommandEnd.{CommandEnd}
 use Rattle.commands.specs.declared.Totals.{Totals}
 use Rattle.commands.proofs.CommandEnds.{ends}
 
@@ -91,7 +92,7 @@ module _ {h : Head} {c : ℕ} {ns store log : List ℕ} {z : Totals} {s : State}
 
     pub requested : (store' log' : List ℕ) (a : ℕ)
         → Simulates ns (λ t s. RequestIn t n v) (λ t u. serve t (requests n v d) u) (memory store log z.at) (memory store' log' a)
-        → (e : CommandEnd) → e ≡ end_of (length log') z a (get_or store' step_at 0) (get_or store' clauses_at 0) → Played h c (Command.Request n v d) s ns store' log' e
+        → (e : Result Totals Refusal) → e ≡ end_of (length log') z a (get_or store' step_at 0) (get_or store' clauses_at 0) → Played h c (Command.Request n v d) s z ns store' log' e
     unfolding act
     requested store' log' a sim e is =
         let t = s.nodes in
@@ -128,7 +129,7 @@ module _ {h : Head} {c : ℕ} {ns store log : List ℕ} {z : Totals} {s : State}
   close_asked = refl
 
   pub close_ends : (log' : List ℕ) (a : ℕ) → Puts (buffer log z.at) (numbers (deletion (stored_steps s.nodes s.stored))) (buffer log' a)
-      → (e : CommandEnd) → e ≡ end_of (length log') z a z.step z.clauses → Played h c Command.Close s ns store log' e
+      → (e : Result Totals Refusal) → e ≡ end_of (length log') z a z.step z.clauses → Played h c Command.Close s z ns store log' e
   unfolding act
   close_ends log' a wrote e is =
       let y = st.exact.stores.counters in

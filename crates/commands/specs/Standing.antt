@@ -1,5 +1,5 @@
 -- What the code has at hand between two commands, and the state that it represents.
-use Rattle.std.specs.Prelude.{◌≡◌, cond, List, ℕ, ◌+◌, ◌≤◌, ltb, length, take}
+use Rattle.std.specs.Prelude.{◌≡◌, cond, List, ℕ, ◌+◌, ◌≤◌, ltb, length, take, Result, Ok, Err}
 use Rattle.sizes.specs.Sizes.{row_at, store_at}
 use Rattle.record.specs.Record.{bytes, clauses}
 use Rattle.totdb.specs.Nodes.{leaf_count}
@@ -8,8 +8,9 @@ use Rattle.rows.specs.Rows.{Table}
 use Rattle.define.specs.Represents.{Memory, memory, Exact}
 use Rattle.player.specs.Formed.{Formed}
 use Rattle.player.specs.Player.{play, accepted, refused}
+use Rattle.player.specs.Refusals.{number_of}
 use Rattle.player.specs.declared.Command.{Command}
-use Rattle.commands.specs.declared.CommandEnd.{CommandEnd}
+use Rattle.player.specs.declared.Refusal.{Refusal}
 use Rattle.commands.specs.declared.Totals.{Totals}
 
 -- The tables, the log of c bytes and the totals represent the state s, which the head h led to. The totals have the step and the clauses
@@ -33,11 +34,12 @@ pub record Reported (c : ℕ) (log : List ℕ) (z : Totals) (s : State) : Type 0
   pub clauses : z.clauses ≡ length (Rattle.record.specs.Record.clauses s.log)
   pub nodes : z.nodes ≡ length s.nodes
 
--- What a command comes to that is put in the state s. Where it is refused the tables are left open: play ends there.
-pub data Played (h : Head) (c : ℕ) (k : Command) (s : State) (ns store log : List ℕ) (e : CommandEnd) : Type 0 where
-  went : (u : State) → play h c k s ≡ accepted u → e.number ≡ 0
-      → Standing h c ns (memory store log e.totals.at) e.totals u → Played h c k s ns store log e
-  stopped : (n : ℕ) → play h c k s ≡ refused n → e.number ≡ n → Reported c log e.totals s → Played h c k s ns store log e
+-- What a command comes to that is put in the state s, which the totals z represent: the totals after it, or its refusal. Where it is refused the
+-- tables are left open: play ends there.
+pub data Played (h : Head) (c : ℕ) (k : Command) (s : State) (z : Totals) (ns store log : List ℕ) (e : Result Totals Refusal) : Type 0 where
+  went : (u : State) (y : Totals) → play h c k s ≡ accepted u → e ≡ Ok y → Standing h c ns (memory store log y.at) y u
+      → Played h c k s z ns store log e
+  stopped : (r : Refusal) → play h c k s ≡ refused (number_of r) → e ≡ Err r → Reported c log z s → Played h c k s z ns store log e
 
 -- The tables have a row for one more than n nodes.
 pub record Room (ns store : List ℕ) (n : ℕ) : Type 0 where
@@ -55,8 +57,8 @@ pub record Ready (ns store log : List ℕ) (z : Totals) : Type 0 where
 -- ---- the end of a command
 
 -- A command that began with the totals z and came to the place a, the step n and k clauses, in a log of c bytes. Where something did not fit
--- nothing is changed.
-unfoldable pub end_of : ℕ → Totals → ℕ → ℕ → ℕ → CommandEnd
+-- it is refused.
+unfoldable pub end_of : ℕ → Totals → ℕ → ℕ → ℕ → Result Totals Refusal
 end_of c z a n k =
-    cond (ltb c a) (record { number = 14; totals = z })
-    (record { number = 0; totals = record { at = a; step = n; clauses = k; nodes = z.nodes; leaves = z.leaves; variable = z.variable } })
+    cond (ltb c a) (Err Refusal.LogFull)
+    (Ok (record { at = a; step = n; clauses = k; nodes = z.nodes; leaves = z.leaves; variable = z.variable }))

@@ -7,15 +7,16 @@ ghost use Rattle.cert.specs.State.{State, Head};
 ghost use Rattle.rows.specs.Rows.{Table};
 ghost use Rattle.define.specs.Represents.{memory};
 ghost use Rattle.player.specs.Player.{first_no, fits_over, questions};
+ghost use Rattle.player.specs.Refusals.{refused_by};
 ghost use Rattle.player.specs.declared.Command.{Command};
 ghost use Rattle.commands.specs.Standing.{Standing, Room, Played, Ready, end_of};
 
-use player::Command;
+use player::{Command, Refusal};
 use totdb::Side;
 
 // How far the play is: the place of the log's next byte, the next step, the clauses, the nodes, the leaves among them, and the
 // next variable.
-#[derive(Clone, Copy)]
+#[derive(Clone, Copy, PartialEq, Eq)]
 pub struct Totals {
     pub at: usize,
     pub step: u32,
@@ -25,175 +26,108 @@ pub struct Totals {
     pub variable: u32,
 }
 
-// The number of the question that a command fails, 0 for none, and the totals after it.
-#[derive(Clone, Copy)]
-pub struct CommandEnd {
-    pub number: u32,
-    pub totals: Totals,
-}
+// Each command comes to the totals after it, or to its refusal, after which the totals are those before it.
 
 // Questions 6 and 7, then a new leaf.
-fn leaf(nodes: &mut [u32], t: Totals, first_variable: u32, literal: u32) -> CommandEnd
+fn leaf(nodes: &mut [u32], t: Totals, first_variable: u32, literal: u32) -> Result<Totals, Refusal>
     requires { (store log : List ℕ) × (r : Ready nodes.old store log t) × (first_variable ≡ r.head.variable) }
     ensures { (h : Head) (c : ℕ) (store log : List ℕ) (s : State) → first_variable ≡ h.variable
         → Standing h c nodes.old (memory store log t.at) t s → Room nodes.old store t.nodes
-        → Played h c (Command.Leaf literal) s nodes.new store log result }
+        → Played h c (Command.Leaf literal) s t nodes.new store log result }
 {
     if first_variable <= literal / 2 {
-        return CommandEnd {
-            number: 6,
-            totals: t,
-        };
+        return Err(Refusal::LeafVariable);
     }
     if nodes::known(nodes, t.leaves, literal) {
-        return CommandEnd {
-            number: 0,
-            totals: t,
-        };
+        return Ok(t);
     }
-    if nodes::known(nodes, t.leaves, pb::neg(literal)) {
-        return CommandEnd {
-            number: 7,
-            totals: t,
-        };
-    }
-    if sizes::MOST_LEAVES <= t.leaves {
-        return CommandEnd {
-            number: 7,
-            totals: t,
-        };
+    if nodes::known(nodes, t.leaves, pb::neg(literal)) || sizes::MOST_LEAVES <= t.leaves {
+        return Err(Refusal::Leaf);
     }
     nodes::add_leaf(nodes, t.nodes, t.leaves, literal);
-    let after = Totals {
-        at: t.at,
-        step: t.step,
-        clauses: t.clauses,
+    Ok(Totals {
         nodes: t.nodes + 1,
         leaves: t.leaves + 1,
-        variable: t.variable,
-    };
-    CommandEnd {
-        number: 0,
-        totals: after,
-    }
+        ..t
+    })
 }
 
 // Question 10, of one side over a node of so many values.
 fn fits(s: Side, node_len: usize) -> bool
     ensures { result ≡ fits_over s node_len }
 {
-    if node_len <= s.offset {
-        return false;
-    }
-    if node_len - s.offset < s.limit {
-        return false;
-    }
-    true
+    s.offset < node_len && s.limit <= node_len - s.offset
 }
 
 // Questions 8, 9 and 10.
-fn ask_join(nodes: &[u32], count: usize, l: Side, r: Side) -> u32
+fn ask_join(nodes: &[u32], count: usize, l: Side, r: Side) -> Result<(), Refusal>
     requires { (t : List Node) × Table nodes.now t × (length t ≡ count) }
-    ensures { (h : Head) (t : List Node) → Table nodes.now t → length t ≡ count → result ≡ first_no (questions h t (Command.Join l r)) }
+    ensures { (h : Head) (t : List Node) → Table nodes.now t → length t ≡ count → refused_by result ≡ first_no (questions h t (Command.Join l r)) }
 {
-    if count <= l.node {
-        return 8;
+    if count <= l.node || count <= r.node {
+        return Err(Refusal::NoNode);
     }
-    if count <= r.node {
-        return 8;
+    if l.node == r.node || nodes::taken(nodes, l.node) || nodes::taken(nodes, r.node) {
+        return Err(Refusal::NodeInUse);
     }
-    if l.node == r.node {
-        return 9;
+    if !fits(l, nodes::len(nodes, l.node)) || !fits(r, nodes::len(nodes, r.node)) {
+        return Err(Refusal::Window);
     }
-    if nodes::taken(nodes, l.node) {
-        return 9;
-    }
-    if nodes::taken(nodes, r.node) {
-        return 9;
-    }
-    if !fits(l, nodes::len(nodes, l.node)) {
-        return 10;
-    }
-    if !fits(r, nodes::len(nodes, r.node)) {
-        return 10;
-    }
-    0
+    Ok(())
 }
 
 // Questions 8 to 10, then a new join.
-fn join(nodes: &mut [u32], t: Totals, l: Side, r: Side) -> CommandEnd
+fn join(nodes: &mut [u32], t: Totals, l: Side, r: Side) -> Result<Totals, Refusal>
     requires { (store log : List ℕ) × Ready nodes.old store log t }
     ensures { (h : Head) (c : ℕ) (store log : List ℕ) (s : State) → Standing h c nodes.old (memory store log t.at) t s
-        → Room nodes.old store t.nodes → Played h c (Command.Join l r) s nodes.new store log result }
+        → Room nodes.old store t.nodes → Played h c (Command.Join l r) s t nodes.new store log result }
 {
-    let number = ask_join(nodes, t.nodes, l, r);
-    if number != 0 {
-        return CommandEnd {
-            number: number,
-            totals: t,
-        };
-    }
+    ask_join(nodes, t.nodes, l, r)?;
     let len = nodes::add_join(nodes, t.nodes, t.variable, l, r);
-    let after = Totals {
-        at: t.at,
-        step: t.step,
-        clauses: t.clauses,
+    Ok(Totals {
         nodes: t.nodes + 1,
-        leaves: t.leaves,
         variable: t.variable + len as u32,
-    };
-    CommandEnd {
-        number: 0,
-        totals: after,
-    }
+        ..t
+    })
 }
 
 // Question 14, of a command that began with t and came to this place, step and number of clauses, in a log of so many bytes.
-fn end(length: usize, t: Totals, at: usize, step: u32, clauses: u32) -> CommandEnd
+fn end(length: usize, t: Totals, at: usize, step: u32, clauses: u32) -> Result<Totals, Refusal>
     ensures { result ≡ end_of length t at step clauses }
 {
     if length < at {
-        return CommandEnd {
-            number: 14,
-            totals: t,
-        };
+        return Err(Refusal::LogFull);
     }
-    let after = Totals {
-        at: at,
-        step: step,
-        clauses: clauses,
-        nodes: t.nodes,
-        leaves: t.leaves,
-        variable: t.variable,
-    };
-    CommandEnd {
-        number: 0,
-        totals: after,
-    }
+    Ok(Totals {
+        at,
+        step,
+        clauses,
+        ..t
+    })
 }
 
 // Questions 8, 11 and 12.
-fn ask_request(nodes: &[u32], count: usize, node: usize, value: usize, direction: u32) -> u32
+fn ask_request(
+    nodes: &[u32],
+    count: usize,
+    node: usize,
+    value: usize,
+    direction: u32,
+) -> Result<(), Refusal>
     requires { (t : List Node) × Table nodes.now t × (length t ≡ count) }
     ensures { (h : Head) (t : List Node) → Table nodes.now t → length t ≡ count
-        → result ≡ first_no (questions h t (Command.Request node value direction)) }
+        → refused_by result ≡ first_no (questions h t (Command.Request node value direction)) }
 {
     if count <= node {
-        return 8;
+        return Err(Refusal::NoNode);
     }
-    if value == 0 {
-        return 11;
+    if value == 0 || nodes::len(nodes, node) < value {
+        return Err(Refusal::Value);
     }
-    if nodes::len(nodes, node) < value {
-        return 11;
+    if direction == 0 || 3 < direction {
+        return Err(Refusal::Direction);
     }
-    if direction == 0 {
-        return 12;
-    }
-    if 3 < direction {
-        return 12;
-    }
-    0
+    Ok(())
 }
 
 // Questions 8, 11 and 12, then all that the request writes, and question 14.
@@ -205,29 +139,23 @@ fn request(
     node: usize,
     value: usize,
     direction: u32,
-) -> CommandEnd
+) -> Result<Totals, Refusal>
     requires { Ready nodes.now store.old log.old t }
     ensures { (h : Head) (c : ℕ) (s : State)
         → Standing h c nodes.now (memory store.old log.old t.at) t s
-        → Played h c (Command.Request node value direction) s nodes.now store.new log.new result }
+        → Played h c (Command.Request node value direction) s t nodes.now store.new log.new result }
 {
-    let number = ask_request(nodes, t.nodes, node, value, direction);
-    if number != 0 {
-        return CommandEnd {
-            number: number,
-            totals: t,
-        };
-    }
+    ask_request(nodes, t.nodes, node, value, direction)?;
     let at = request::request(nodes, store, log, t.at, node, value, direction);
     end(log.len(), t, at, store[sizes::STEP], store[sizes::CLAUSES])
 }
 
 // The deletion of every stored definition's steps, ascending, and question 14.
-fn close(nodes: &[u32], store: &[u32], log: &mut [u8], t: Totals) -> CommandEnd
+fn close(nodes: &[u32], store: &[u32], log: &mut [u8], t: Totals) -> Result<Totals, Refusal>
     requires { Ready nodes.now store.now log.old t }
     ensures { (h : Head) (c : ℕ) (s : State)
         → Standing h c nodes.now (memory store.now log.old t.at) t s
-        → Played h c Command.Close s nodes.now store.now log.new result }
+        → Played h c Command.Close s t nodes.now store.now log.new result }
 {
     let marks = rows::number_at(store, sizes::MARKS);
     let at = closing::put_deletion(nodes, store, log, t.at, marks);
@@ -243,11 +171,11 @@ pub fn command(
     t: Totals,
     first_variable: u32,
     k: Command,
-) -> CommandEnd
+) -> Result<Totals, Refusal>
     requires { (r : Ready nodes.old store.old log.old t) × (first_variable ≡ r.head.variable) }
     ensures { (h : Head) (c : ℕ) (s : State) → first_variable ≡ h.variable
         → Standing h c nodes.old (memory store.old log.old t.at) t s
-        → Played h c k s nodes.new store.new log.new result }
+        → Played h c k s t nodes.new store.new log.new result }
 {
     match k {
         Command::Leaf(literal) => leaf(nodes, t, first_variable, literal),

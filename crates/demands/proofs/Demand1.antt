@@ -2,7 +2,7 @@
 use mathlib.Core.Path.{sym, ◌∙◌, ap}
 use Rattle.player.specs.Player.{Outcome, played}
 use Rattle.player.proofs.Judged.{verdict_of, verdict_is, verdict_led}
-use Rattle.player.proofs.Refusal.{outcome_number, outcome_place}
+use Rattle.player.proofs.Plays.{outcome_number, outcome_place}
 use Rattle.demands.specs.Demands.{Demand1}
 use Rattle.demands.proofs.Holds.{reports_of}
 

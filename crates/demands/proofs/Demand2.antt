@@ -27,7 +27,7 @@ use Rattle.player.proofs.Judged.{reached_all, reached_last, verdict_is, verdict_
 use Rattle.player.proofs.Matching.{held_from, held_has, held_once, held_clauses, keys_from, keys_has, keys_once, nodes_table, steps_count}
 use Rattle.player.proofs.Nodes.{nodes_of_lem}
 use Rattle.player.proofs.Records.{records_of}
-use Rattle.player.proofs.Refusal.{outcome_number, outcome_place}
+use Rattle.player.proofs.Plays.{outcome_number, outcome_place}
 use Rattle.demands.specs.Demands.{SatisfiesAll, Proved, Made, Demand2}
 use Rattle.demands.proofs.Holds.{reports_of}
 

@@ -20,7 +20,7 @@ use Rattle.player.specs.declared.Command.TheVariants.{Leaf, Join, Request, Close
 use Rattle.player.proofs.Fronts.{reads_nil, reads_both, reads_split, none_stands, reads_command}
 use Rattle.player.proofs.Judged.{number_used, verdict_of, verdict_is}
 use Rattle.player.proofs.Questions.{first_holds}
-use Rattle.player.proofs.Refusal.{outcome_number, outcome_place}
+use Rattle.player.proofs.Plays.{outcome_number, outcome_place}
 use Rattle.demands.specs.Fields.{FifthGroup, GoesOn, RefusedBy, BigFields}
 use Rattle.demands.proofs.Holds.{held_log}
 

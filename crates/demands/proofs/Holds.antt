@@ -11,7 +11,7 @@ use Rattle.cert.specs.State.{State, start}
 use Rattle.player.specs.Player.{Outcome, outcome, played}
 use Rattle.player.proofs.Endings.{Led, nowhere, on, led_small, led_decodes, ending}
 use Rattle.player.proofs.Matching.{clauses_once}
-use Rattle.player.proofs.Refusal.{padded}
+use Rattle.player.proofs.Plays.{padded}
 use Rattle.demands.specs.Demands.{Holds, Reports}
 
 outcome_holds : (capacity n p : ℕ) (s : State) → decode_log (bytes s.log) ≡ some s.log → Holds (outcome capacity n p s) s.log

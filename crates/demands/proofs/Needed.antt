@@ -15,7 +15,7 @@ use Rattle.player.specs.declared.Command.{Command}
 use Rattle.player.proofs.Formed.{formed_start, formed_act, all_formed}
 use Rattle.player.proofs.Judged.{reached_all, verdict_of, verdict_used, number_used}
 use Rattle.player.proofs.Questions.{asked_none, none_asked, questions_most, refused_exactly}
-use Rattle.player.proofs.Refusal.{play_stops}
+use Rattle.player.proofs.Plays.{play_stops}
 use Rattle.demands.specs.Needed.{Acts, DeskCard}
 
 pub desk_card : DeskCard

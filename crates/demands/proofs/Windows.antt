@@ -34,7 +34,7 @@ use Rattle.player.proofs.Judged.{head_script, read_on, read_refused, reached_all
 use Rattle.player.proofs.Matching.{nodes_table}
 use Rattle.player.proofs.Nodes.{node_kept}
 use Rattle.player.proofs.Questions.{answered_no, sizes, sized, join_there}
-use Rattle.player.proofs.Refusal.{play_passed, plays_accepted, plays_refused, script_true, script_false, played_true, played_false}
+use Rattle.player.proofs.Plays.{play_passed, plays_accepted, plays_refused, script_true, script_false, played_true, played_false}
 use Rattle.player.proofs.Runs.{build_act}
 use Rattle.player.proofs.Sound.{sound_start, sound_act}
 

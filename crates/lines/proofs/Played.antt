@@ -8,7 +8,7 @@ use lib.ListN.{length, take, length-take}
 use Rattle.record.specs.Record.{Record, bytes, clauses, decode_log}
 use Rattle.record.proofs.Decode.{decode_bytes}
 use Rattle.player.specs.Player.{played}
-use Rattle.player.proofs.Refusal.{padded}
+use Rattle.player.proofs.Plays.{padded}
 use Rattle.demands.specs.Demands.{Holds}
 use Rattle.demands.proofs.Holds.{some_holds, held_log}
 use Rattle.places.specs.Walk.{clauses_at}

@@ -8,7 +8,7 @@ use Rattle.sizes.specs.Sizes.{most_bytes}
 use Rattle.player.specs.Player.{played}
 use Rattle.totlog.specs.Entry.{answer_of}
 use Rattle.answer.specs.declared.Answer.{Answer}
-use Rattle.player.proofs.Refusal.{padded}
+use Rattle.player.proofs.Plays.{padded}
 use Rattle.order.specs.Order.{sorted}
 use Rattle.listing.specs.Line.{line, lines_at}
 use Rattle.lines.specs.Sheet.{header, refusal, clauses_in, sheet_of, sheet}

@@ -14,7 +14,7 @@ use Rattle.player.specs.Formed.{Treed}
 use Rattle.player.specs.Player.{Outcome, outcome, played}
 use Rattle.player.proofs.Counts.{all_keep}
 use Rattle.player.proofs.Endings.{ending}
-use Rattle.player.proofs.Refusal.{outcome_number, outcome_place}
+use Rattle.player.proofs.Plays.{outcome_number, outcome_place}
 use Rattle.player.proofs.Scripts.{accepted_reads, passes_is}
 use Rattle.player.proofs.Sound.{sound_start}
 use Rattle.player.proofs.Tree.{treed_start, treed_act, few_nodes_lem}

@@ -17,7 +17,7 @@ use Rattle.cert.specs.State.{Head}
 use Rattle.player.specs.Script.{Next, command, refuse, end, get, arguments, read_command, closes, Commands, stop, before, read_commands, script, read_script, command_numbers, script_bytes}
 use Rattle.player.specs.declared.Command.{Command}
 use Rattle.player.specs.declared.Command.TheVariants.{Leaf, Join, Request, Close}
-use Rattle.player.proofs.Refusal.{head_read}
+use Rattle.player.proofs.Plays.{head_read}
 
 -- ---- what is written reads
 

@@ -36,7 +36,7 @@ use Rattle.player.specs.Player.{make, delete, first_no, questions, act, head_fit
 use Rattle.player.specs.declared.Command.{Command}
 use Rattle.player.proofs.Counts.{counted_act, all_keep}
 use Rattle.player.proofs.Formed.{head_low}
-use Rattle.player.proofs.Refusal.{start_empty}
+use Rattle.player.proofs.Plays.{start_empty}
 use Rattle.player.proofs.Sound.{request_fits, requests_asked, serve_nodes, requests_right, sound_start}
 use Rattle.player.proofs.Tree.{treed_start, few_variables, treed_act}
 use Rattle.player.proofs.Values.{AllBelow, below_map, below_append, below_at, LowNode, below_mono, DefLow, values, key_records-below, clause_tokens-below, log_small}

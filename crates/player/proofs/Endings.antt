@@ -19,7 +19,7 @@ use Rattle.player.specs.Verdict.{untouched}
 use Rattle.player.specs.declared.Command.{Command}
 use Rattle.player.proofs.Decoded.{log_fits, log_decodes}
 use Rattle.player.proofs.Numbers.{script_most, plays_most}
-use Rattle.player.proofs.Refusal.{head_read, outcome_number, play_passed, plays_done, plays_ended, plays_accepted, plays_refused}
+use Rattle.player.proofs.Plays.{head_read, outcome_number, play_passed, plays_done, plays_ended, plays_accepted, plays_refused}
 use Rattle.player.proofs.Scripts.{Way, too_long, no_head, bad_head, commands, way}
 
 -- ---- the state

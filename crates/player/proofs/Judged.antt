@@ -20,7 +20,7 @@ use Rattle.player.proofs.Coding.{CloseLast, nothing_left}
 use Rattle.player.proofs.Endings.{Led, nowhere, on}
 use Rattle.player.proofs.Fronts.{reads_cons, cons_reads, reads_one, one_reads, rest_bytes, reads_command, command_reads, command_shorter, Stands, at_end, code_unread, after_close, not_a_code, other_unread, stands, next_stands, unread_code, closed_code, other_code, unread_others}
 use Rattle.player.proofs.Questions.{Answer, answer_yes, answer_no, answered_no, answered_yes, first_holds, Judged, stopped, allowed, judged, refused_exactly, accepted_exactly, sizes, sized, OutOfRange, limits}
-use Rattle.player.proofs.Refusal.{play_passed, plays_done, plays_ended, plays_accepted, plays_refused, script_true, script_false, script_headless, played_true, played_false, script_is, head_read}
+use Rattle.player.proofs.Plays.{play_passed, plays_done, plays_ended, plays_accepted, plays_refused, script_true, script_false, script_headless, played_true, played_false, script_is, head_read}
 use Rattle.player.proofs.Runs.{all_last}
 
 -- ---- the player's outcome

@@ -29,7 +29,7 @@ use Rattle.player.specs.Verdict.{OffNode, offset_high, limit_high}
 use Rattle.player.specs.declared.Command.{Command}
 use Rattle.player.proofs.Counts.{all_keep}
 use Rattle.player.proofs.Questions.{answered_no, answered_yes, side_answer}
-use Rattle.player.proofs.Refusal.{play_fits, play_full, plays_done, plays_accepted, plays_refused, outcome_number, start_empty}
+use Rattle.player.proofs.Plays.{play_fits, play_full, plays_done, plays_accepted, plays_refused, outcome_number, start_empty}
 use Rattle.player.proofs.Scripts.{accepted_reads, passes_plays, passes_is}
 use Rattle.player.proofs.Sound.{sound_start, sound_act, request_fits, requests_asked}
 

@@ -3,7 +3,7 @@ pub mod Questions
 pub mod Reading
 pub mod Places
 pub mod Coding
-pub mod Refusal
+pub mod Plays
 pub mod Sound
 pub mod Runs
 pub mod Scripts

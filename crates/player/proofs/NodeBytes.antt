@@ -17,7 +17,7 @@ use Rattle.player.specs.Formed.{Sound}
 use Rattle.player.specs.Player.{first_no, questions, act, make, delete, play, accepted}
 use Rattle.player.specs.Script.{Next, command, refuse, get, arguments, read_command, command_numbers}
 use Rattle.player.specs.declared.Command.{Command}
-use Rattle.player.proofs.Refusal.{play_passed}
+use Rattle.player.proofs.Plays.{play_passed}
 use Rattle.player.proofs.Sound.{serve_nodes, requests_asked, request_fits}
 
 -- ---- a command

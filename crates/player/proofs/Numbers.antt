@@ -11,7 +11,7 @@ use Rattle.player.specs.Script.{Next, command, refuse, end, read_command, closes
 use Rattle.player.specs.declared.Command.{Command}
 use Rattle.player.proofs.Coding.{refused_number}
 use Rattle.player.proofs.Questions.{questions_most}
-use Rattle.player.proofs.Refusal.{head_read, outcome_number, PlayCase, stops, overflows, goes, play_cases, plays_done, plays_ended, plays_accepted, plays_refused}
+use Rattle.player.proofs.Plays.{head_read, outcome_number, PlayCase, stops, overflows, goes, play_cases, plays_done, plays_ended, plays_accepted, plays_refused}
 
 play_most : (h : Head) (capacity : ℕ) (c : Command) (s : State) (m : ℕ) → play h capacity c s ≡ refused m → m ≤ 14
 play_most h capacity c s m e = by (play_cases h capacity c s)

@@ -1,4 +1,5 @@
 -- A script at a place: what its reader comes to, number by number, as the code has it.
+use Rattle.std.specs.Prelude.{Option, Some, None, ok_or, Result, Ok, Err}
 use mathlib.Core.Path.{◌≡◌, refl, sym, ap, ◌∙◌}
 use mathlib.Core.Bool.{Bool, true, false}
 use mathlib.Core.List.{List}
@@ -7,104 +8,85 @@ use native.Mathlib.Omega.{arith}
 use lib.ListN.{length, drop, length-drop, drop_of_length-le}
 use lib.Seq.{drop-cons}
 use Rattle.number.specs.Number.{groups, read_at}
-use Rattle.number.specs.declared.Reading.{Reading}
-use Rattle.number.specs.declared.Reading.TheVariants.{Number, Bad}
 use Rattle.number.proofs.Places.{read_from-number, read_from-bad}
 use Rattle.totdb.specs.declared.Side.{Side}
-use Rattle.player.specs.Script.{Next, command, refuse, get, get_side, arguments, read_command, read_commands, Script, script, headless, read_script}
-use Rattle.player.specs.Places.{placed, arguments_at, next_at, with_number, triple_at, with_triple, side_at, head_at}
+use Rattle.cert.specs.State.{Head}
+use Rattle.player.specs.Refusals.{numbered}
+use Rattle.player.specs.Script.{Next, command, refuse, get, get_three, get_side, arguments, read_command, read_commands, Script, script, headless, read_script}
+use Rattle.player.specs.Places.{placed, arguments_at, followed, next_at, read_on, read_on_three, triple_at, side_at, leaf_at, join_at, request_at, head_at}
 use Rattle.player.specs.declared.Command.{Command}
-use Rattle.player.specs.declared.CommandReading.{CommandReading}
-use Rattle.player.specs.declared.HeadReading.{HeadReading}
-use Rattle.player.specs.declared.SideReading.{SideReading}
-use Rattle.player.specs.declared.TripleReading.{TripleReading}
-
--- A command after a side.
-abbrev pub with_side : SideReading → (Side → ℕ → CommandReading) → CommandReading
-with_side (SideReading.Side d e) f = f d e
-with_side SideReading.Bad f = CommandReading.Refuse 2
+use Rattle.player.specs.declared.Refusal.{Refusal}
 
 -- The script after its head.
-abbrev pub headed : List ℕ → HeadReading → Script
-headed s (HeadReading.Head v n e) = script (record { variable = v; step = n }) (read_commands (length s - e) false (drop e s))
-headed s HeadReading.Bad = headless
+abbrev pub headed : List ℕ → Option (Head × ℕ) → Script
+headed s (Some (h, e)) = script h (read_commands (length s - e) false (drop e s))
+headed s None = headless
 
--- A function of what is read.
-with_map : {A B : Type 0} (φ : A → B) (a : A) (f : ℕ → ℕ → A) (g : ℕ → ℕ → B) (r : Reading) → ((x e : ℕ) → φ (f x e) ≡ g x e)
-    → φ (with_number a r f) ≡ with_number (φ a) r g
-with_map φ a f g (Number x e) h = h x e
-with_map φ a f g Bad h = refl
+-- What follows a code, where question 2 is answered no if it does not read.
+abbrev pub or_no_number : Option (Command × ℕ) → Result (Option (Command × ℕ)) ℕ
+or_no_number r = followed (numbered (ok_or r Refusal.NoNumber))
 
 module _ (s : List ℕ) where
-  -- A reader that takes a number and goes on, by places.
-  placed_get : (at : ℕ) (f : ℕ → List ℕ → Next) (g : ℕ → ℕ → CommandReading)
-      → ((x e : ℕ) → e ≤ length s → placed s (f x (drop e s)) ≡ g x e)
-      → placed s (get (drop at s) f) ≡ with_number (CommandReading.Refuse 2) (read_at s at) g
+  -- A reader that takes a number and goes on, by places: φ is what becomes of what is read.
+  placed_get : {B : Type 0} (at : ℕ) (f : ℕ → List ℕ → Next) (φ : Option B → Result (Option (Command × ℕ)) ℕ) (g : ℕ → ℕ → Option B) → φ None ≡ Err 2
+      → ((x e : ℕ) → e ≤ length s → placed s (f x (drop e s)) ≡ φ (g x e)) → placed s (get (drop at s) f) ≡ φ (read_on (read_at s at) g)
   unfolding get placed
-  placed_get at f g h = by (read_at s at) refl
+  placed_get at f φ g n h = by (read_at s at) refl
     where
-      by : (r : Reading) → read_at s at ≡ r → placed s (get (drop at s) f) ≡ with_number (CommandReading.Refuse 2) r g
-      by (Number x e) p = let q = read_from-number groups s at p in rw (q.0, get) (h x e q.2)
-      by Bad p = rw (read_from-bad groups s at p, get)
+      by : (r : Option (ℕ × ℕ)) → read_at s at ≡ r → placed s (get (drop at s) f) ≡ φ (read_on r g)
+      by (Some (x, e)) p = let q = read_from-number groups s at p in rw (q.0, get) (h x e q.2)
+      by None p = rw (read_from-bad groups s at p, get) (sym n)
 
   -- ---- a command
 
-  placed_command : (c : Command) (e : ℕ) → e ≤ length s → placed s (command c (drop e s)) ≡ CommandReading.Command c e
+  placed_command : (c : Command) (e : ℕ) → e ≤ length s → placed s (command c (drop e s)) ≡ Ok (Some (c, e))
   unfolding placed
-  placed_command c e h = rw (length-drop e s) (ap (CommandReading.Command c) (omega arith))
+  placed_command c e h = rw (length-drop e s) (ap (λ (n : ℕ). Ok (Some (c, n))) (omega arith))
 
   -- The same with three numbers, and with a side.
-  placed_triple : (at : ℕ) (f : ℕ → ℕ → ℕ → List ℕ → Next) (g : ℕ → ℕ → ℕ → ℕ → CommandReading)
-      → ((x y z e : ℕ) → e ≤ length s → placed s (f x y z (drop e s)) ≡ g x y z e)
-      → placed s (get (drop at s) (λ x p. get p (λ y q. get q (λ z r. f x y z r)))) ≡ with_triple (CommandReading.Refuse 2) (triple_at s at) g
-  placed_triple at f g h =
-      placed_get at _ _ (λ x a _. placed_get a _ _ (λ y b _. placed_get b _ _ (λ z e. h x y z e)))
-      ∙ sym (with_map (λ r. with_triple (CommandReading.Refuse 2) r g) _ _ _ (read_at s at) (λ x a.
-      with_map (λ r. with_triple (CommandReading.Refuse 2) r g) _ _ _ (read_at s a) (λ y b.
-      with_map (λ r. with_triple (CommandReading.Refuse 2) r g) _ _ _ (read_at s b) (λ z e. refl))))
+  placed_three : {B : Type 0} (at : ℕ) (f : ℕ → ℕ → ℕ → List ℕ → Next) (φ : Option B → Result (Option (Command × ℕ)) ℕ) (g : ℕ → ℕ → ℕ → ℕ → Option B)
+      → φ None ≡ Err 2 → ((x y z e : ℕ) → e ≤ length s → placed s (f x y z (drop e s)) ≡ φ (g x y z e))
+      → placed s (get_three (drop at s) f) ≡ φ (read_on_three (triple_at s at) g)
+  placed_three at f φ g n h =
+      let ψ = λ (r : Option ((ℕ × ℕ × ℕ) × ℕ)). φ (read_on_three r g) in
+      placed_get at _ ψ _ n (λ x a _. placed_get a _ ψ _ n (λ y b _. placed_get b _ ψ _ n (λ z e. h x y z e)))
 
-  placed_side : (at : ℕ) (f : Side → List ℕ → Next) (g : Side → ℕ → CommandReading)
-      → ((d : Side) (e : ℕ) → e ≤ length s → placed s (f d (drop e s)) ≡ g d e) → placed s (get_side (drop at s) f) ≡ with_side (side_at s at) g
-  placed_side at f g h = placed_triple at _ _ (λ x y z e. h _ e) ∙ by (triple_at s at)
-    where
-      by : (r : TripleReading)
-          → with_triple (CommandReading.Refuse 2) r (λ n o k e. g (record { node = n; offset = o; limit = k }) e)
-          ≡ with_side (with_triple SideReading.Bad r (λ n o k e. SideReading.Side (record { node = n; offset = o; limit = k }) e)) g
-      by (TripleReading.Triple x y z e) = refl
-      by TripleReading.Bad = refl
+  placed_side : (at : ℕ) (f : Side → List ℕ → Next) (g : Side → ℕ → Option (Command × ℕ))
+      → ((d : Side) (e : ℕ) → e ≤ length s → placed s (f d (drop e s)) ≡ or_no_number (g d e))
+      → placed s (get_side (drop at s) f) ≡ or_no_number (read_on (side_at s at) g)
+  placed_side at f g h = placed_three at _ (λ r. or_no_number (read_on r g)) _ refl (λ x y z e. h _ e)
 
   module _ (at : ℕ) where
-    pub leaf_at : arguments_at 1 s at ≡ with_number (CommandReading.Refuse 2) (read_at s at) (λ l e. CommandReading.Command (Command.Leaf l) e)
+    pub arguments_leaf : arguments_at 1 s at ≡ or_no_number (leaf_at s at)
     unfolding arguments
-    leaf_at = placed_get at _ _ (λ l. placed_command (Command.Leaf l))
+    arguments_leaf = placed_get at _ or_no_number _ refl (λ l. placed_command (Command.Leaf l))
 
-    pub join_at : arguments_at 2 s at ≡ with_side (side_at s at) (λ l a. with_side (side_at s a) (λ r e. CommandReading.Command (Command.Join l r) e))
+    pub arguments_join : arguments_at 2 s at ≡ or_no_number (join_at s at)
     unfolding arguments
-    join_at =
+    arguments_join =
         placed_side at (λ l q. get_side q (λ r. command (Command.Join l r))) _ (λ l a _.
         placed_side a (λ r. command (Command.Join l r)) _ (λ r. placed_command (Command.Join l r)))
 
-    pub request_at : arguments_at 3 s at
-        ≡ with_triple (CommandReading.Refuse 2) (triple_at s at) (λ n v d e. CommandReading.Command (Command.Request n v d) e)
+    pub arguments_request : arguments_at 3 s at ≡ or_no_number (request_at s at)
     unfolding arguments
-    request_at = placed_triple at _ _ (λ n v d. placed_command (Command.Request n v d))
+    arguments_request = placed_three at _ or_no_number _ refl (λ n v d. placed_command (Command.Request n v d))
 
-    pub close_at : at ≤ length s → arguments_at 4 s at ≡ CommandReading.Command Command.Close at
+    pub arguments_close : at ≤ length s → arguments_at 4 s at ≡ Ok (Some (Command.Close, at))
     unfolding arguments
-    close_at h = placed_command Command.Close at h
+    arguments_close h = placed_command Command.Close at h
 
-    pub none_at : (c : ℕ) → ¬ (c ≡ 1) → ¬ (c ≡ 2) → ¬ (c ≡ 3) → ¬ (c ≡ 4) → arguments_at c s at ≡ CommandReading.Refuse 5
+    pub arguments_none : (c : ℕ) → ¬ (c ≡ 1) → ¬ (c ≡ 2) → ¬ (c ≡ 3) → ¬ (c ≡ 4) → arguments_at c s at ≡ Err 5
     unfolding arguments placed
-    none_at zero p q r t = refl
-    none_at (suc zero) p q r t = absurd (p refl)
-    none_at (suc (suc zero)) p q r t = absurd (q refl)
-    none_at (suc (suc (suc zero))) p q r t = absurd (r refl)
-    none_at (suc (suc (suc (suc zero)))) p q r t = absurd (t refl)
-    none_at (suc (suc (suc (suc (suc c))))) p q r t = refl
+    arguments_none zero p q r t = refl
+    arguments_none (suc zero) p q r t = absurd (p refl)
+    arguments_none (suc (suc zero)) p q r t = absurd (q refl)
+    arguments_none (suc (suc (suc zero))) p q r t = absurd (r refl)
+    arguments_none (suc (suc (suc (suc zero)))) p q r t = absurd (t refl)
+    arguments_none (suc (suc (suc (suc (suc c))))) p q r t = refl
 
     -- ---- a code
 
-    pub code_end : (closed : Bool) → length s ≤ at → next_at closed s at ≡ CommandReading.End
+    pub code_end : (closed : Bool) → length s ≤ at → next_at closed s at ≡ Ok None
     unfolding read_command placed
     code_end closed h = rw (drop_of_length-le s h)
 
@@ -113,16 +95,18 @@ module _ (s : List ℕ) where
     unfolding read_command
     next_get closed h = rw (drop-cons s at 0 h)
 
-    pub code_open : at < length s → next_at false s at ≡ with_number (CommandReading.Refuse 2) (read_at s at) (λ c e. arguments_at c s e)
-    code_open h = next_get false h ∙ placed_get at _ _ (λ c e _. refl)
+    pub code_bad : (closed : Bool) → at < length s → read_at s at ≡ None → next_at closed s at ≡ Err 2
+    unfolding get placed
+    code_bad closed h p = next_get closed h ∙ rw (read_from-bad groups s at p, get)
 
-    pub code_closed : at < length s → next_at true s at ≡ with_number (CommandReading.Refuse 2) (read_at s at) (λ c e. CommandReading.Refuse 4)
-    unfolding placed
-    code_closed h = next_get true h ∙ placed_get at _ _ (λ c e _. refl)
+    module _ {c e : ℕ} (h : at < length s) (p : read_at s at ≡ Some (c, e)) where
+      pub code_closed : next_at true s at ≡ Err 4
+      unfolding get placed
+      code_closed = next_get true h ∙ rw ((read_from-number groups s at p).0, get)
 
-    pub code_bad : (closed : Bool) → at < length s → read_at s at ≡ Bad → next_at closed s at ≡ CommandReading.Refuse 2
-    code_bad true h p = code_closed h ∙ rw p
-    code_bad false h p = code_open h ∙ rw p
+      pub code_open : next_at false s at ≡ arguments_at c s e
+      unfolding get placed
+      code_open = next_get false h ∙ rw ((read_from-number groups s at p).0, get)
 
   -- ---- the head
 
@@ -131,11 +115,11 @@ module _ (s : List ℕ) where
   unfolding read_script
   script_head = by (read_at s 0) refl
     where
-      by : (r : Reading) → read_at s 0 ≡ r
-          → read_script s ≡ headed s (with_number HeadReading.Bad r (λ v a. with_number HeadReading.Bad (read_at s a) (λ n e. HeadReading.Head v n e)))
-      by Bad p = rw (read_from-bad groups s 0 p, read_script)
-      by (Number v a) p = go (read_at s a) refl
+      by : (r : Option (ℕ × ℕ)) → read_at s 0 ≡ r
+          → read_script s ≡ headed s (read_on r (λ v a. read_on (read_at s a) (λ n e. Some (record { variable = v; step = n }, e))))
+      by None p = rw (read_from-bad groups s 0 p, read_script)
+      by (Some (v, a)) p = go (read_at s a) refl
         where
-          go : (r : Reading) → read_at s a ≡ r → read_script s ≡ headed s (with_number HeadReading.Bad r (λ n e. HeadReading.Head v n e))
-          go Bad q = rw ((read_from-number groups s 0 p).0, read_script, read_from-bad groups s a q)
-          go (Number n e) q = rw ((read_from-number groups s 0 p).0, read_script, (read_from-number groups s a q).0, length-drop e s)
+          go : (r : Option (ℕ × ℕ)) → read_at s a ≡ r → read_script s ≡ headed s (read_on r (λ n e. Some (record { variable = v; step = n }, e)))
+          go None q = rw ((read_from-number groups s 0 p).0, read_script, read_from-bad groups s a q)
+          go (Some (n, e)) q = rw ((read_from-number groups s 0 p).0, read_script, (read_from-number groups s a q).0, length-drop e s)

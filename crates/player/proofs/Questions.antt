@@ -21,7 +21,7 @@ use Rattle.player.specs.Player.{head_fits, Question, ask, first_no, side_fits, q
 use Rattle.player.specs.Verdict.{own_literal, leaf_literals, side_nodes, joined_nodes, OffNode, offset_high, limit_high, No, no_6, no_7, no_8_join, no_8_request, no_9, no_10, no_11, no_12, no_14, order, First, first_here, first_later}
 use Rattle.player.specs.declared.Command.{Command}
 use Rattle.player.specs.declared.Command.TheVariants.{Leaf, Join, Request as Requested, Close}
-use Rattle.player.proofs.Refusal.{play_stops, play_goes, play_over}
+use Rattle.player.proofs.Plays.{play_stops, play_goes, play_over}
 
 -- ---- a test and what makes it answer no
 

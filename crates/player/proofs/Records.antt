@@ -1,4 +1,5 @@
 -- The records of an accepted script by their places: each clause after its derivation, and the close.
+use Rattle.std.specs.Prelude.{None}
 use mathlib.Core.Path.{◌≡◌, refl, sym, ◌∙◌, ap, subst}
 use mathlib.Core.Bool.{Bool, true, false, ◌||◌}
 use mathlib.Core.List.{List, [], ◌∷◌, ◌++◌, append-nil, Memᴰ}
@@ -6,7 +7,6 @@ use Prim.Native.Nat.{ℕ, zero, suc}
 use native.Mathlib.Omega.{arith}
 use lib.ListN.{length}
 use Rattle.number.specs.Number.{Front, number, bad, read, read_refusal}
-use Rattle.number.specs.declared.Reading.TheVariants.{Bad}
 use Rattle.record.specs.Record.{Record, derivation, clause, deletion}
 use Rattle.record.specs.Steps.{step_of}
 use Rattle.record.specs.Written.{WrittenFor, EachFor, Closed, Ended}
@@ -26,7 +26,7 @@ use Rattle.player.specs.declared.Command.{Command}
 use Rattle.player.proofs.ClauseSteps.{clause_steps}
 use Rattle.player.proofs.Coding.{CloseLast}
 use Rattle.player.proofs.Counts.{counted_make, counted_delete, all_keep}
-use Rattle.player.proofs.Refusal.{head_read}
+use Rattle.player.proofs.Plays.{head_read}
 use Rattle.player.proofs.Sound.{requests_asked, request_fits, serve_nodes, sound_act, sound_start}
 
 -- ---- every command
@@ -114,7 +114,7 @@ unfolding read_command get
 nothing_after [] c rest e = let z : ◌≡◌ {A = ℕ} 0 1 = cc in omega arith
 nothing_after (b ∷ bs) c rest e = by (read (b ∷ bs)) e
   where
-    by : (x : Front) → elim x as (λ _. Next) [ number n r ↦ refuse 4 | bad ↦ refuse (read_refusal Bad) ] ≡ command c rest → ⊥
+    by : (x : Front) → elim x as (λ _. Next) [ number n r ↦ refuse 4 | bad ↦ refuse (read_refusal None) ] ≡ command c rest → ⊥
     by (number n r) e = let z : ◌≡◌ {A = ℕ} 0 1 = cc in omega arith
     by bad e = let z : ◌≡◌ {A = ℕ} 0 1 = cc in omega arith
 

@@ -26,7 +26,7 @@ use Rattle.player.specs.Formed.{Sound}
 use Rattle.player.specs.Passes.{Passed, AllPassed, all_done, all_more}
 use Rattle.player.specs.Player.{plays, outcome, play, Result, refused, accepted, make, delete, first_no, questions, act}
 use Rattle.player.specs.declared.Command.{Command}
-use Rattle.player.proofs.Refusal.{play_fits, plays_done, outcome_number, plays_ended, play_refused, plays_refused, plays_accepted, play_passed}
+use Rattle.player.proofs.Plays.{play_fits, plays_done, outcome_number, plays_ended, play_refused, plays_refused, plays_accepted, play_passed}
 use Rattle.player.proofs.Sound.{RequestFits, requests_asked, serve_nodes, requests_right, request_fits, sound_act}
 
 pub build_makes : (cs : List Command) (t : List Node) (o : ℕ) → build cs t o ≡ build (makes cs) t o

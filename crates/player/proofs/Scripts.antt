@@ -13,7 +13,7 @@ use Rattle.cert.specs.State.{start, Head}
 use Rattle.player.specs.Passes.{Passes}
 use Rattle.player.specs.Player.{outcome, plays, refused_at_head, head_fits, play_script, played}
 use Rattle.player.specs.Script.{Commands, Script, script, headless, read_script}
-use Rattle.player.proofs.Refusal.{script_true, script_false, script_headless, played_true, played_false}
+use Rattle.player.proofs.Plays.{script_true, script_false, script_headless, played_true, played_false}
 use Rattle.player.proofs.Runs.{plays_finished, plays_passed}
 
 pub head_number : (capacity n : ℕ) → (refused_at_head capacity n).number ≡ n

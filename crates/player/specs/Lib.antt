@@ -1,3 +1,4 @@
+pub mod Refusals
 pub mod Script
 pub mod Places
 pub mod Player

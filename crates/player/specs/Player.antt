@@ -1,8 +1,7 @@
 -- The player: the questions in their order, one command at a time, and the answer.
-use Rattle.std.specs.Prelude.{◌≡◌, Bool, true, false, ◌&&◌, ◌||◌, not as notb, List, [], ◌∷◌, ◌++◌, ℕ, zero, suc, ◌+◌, ◌-◌, ◌≤◌, leb, ltb, eqb, length, drop, replicate}
+use Rattle.std.specs.Prelude.{None, ◌≡◌, Bool, true, false, ◌&&◌, ◌||◌, not as notb, List, [], ◌∷◌, ◌++◌, ℕ, zero, suc, ◌+◌, ◌-◌, ◌≤◌, leb, ltb, eqb, length, drop, replicate}
 use Rattle.sizes.specs.Sizes.{most_bytes, most_head, most_leaves}
 use Rattle.number.specs.Number.{read_refusal}
-use Rattle.number.specs.declared.Reading.TheVariants.{Bad}
 use Rattle.pb.specs.Sum.{variable, neg}
 use Rattle.record.specs.Record.{deletion, bytes, steps, clauses}
 use Rattle.totdb.specs.Nodes.{Node, leaf, node_at, len, joined, known, leaf_count, taken}
@@ -150,7 +149,7 @@ head_fits h = leb h.variable most_head && leb 1 h.step && leb h.step most_head
 
 unfoldable pub play_script : ℕ → Script → Outcome
 unfolding plays start refused_at_head head_fits
-play_script capacity headless = refused_at_head capacity (read_refusal Bad)
+play_script capacity headless = refused_at_head capacity (read_refusal None)
 play_script capacity (script h cs) =
     elim (head_fits h) [ true ↦ plays h capacity cs.ending cs.list 0 (start h) | false ↦ refused_at_head capacity 3 ]
 

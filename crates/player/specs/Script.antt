@@ -1,8 +1,7 @@
 -- A script: a head, then commands. Questions 2, 4 and 5 are put while it is read.
-use Rattle.std.specs.Prelude.{Bool, true, false, ℕ, zero, suc, length}
+use Rattle.std.specs.Prelude.{Bool, true, false, None, ℕ, zero, suc, length}
 use mathlib.Core.List.{List, [], ◌∷◌, flat_map}
 use Rattle.number.specs.Number.{encode_in, encode, number, bad, above, read_in, read, read_refusal}
-use Rattle.number.specs.declared.Reading.TheVariants.{Bad}
 use Rattle.totdb.specs.declared.Side.{Side}
 use Rattle.cert.specs.State.{Head}
 use Rattle.player.specs.declared.Command.{Command}
@@ -17,7 +16,7 @@ pub data Next : Type 0 where
 -- Question 2, at every number.
 unfoldable pub get : List ℕ → (ℕ → List ℕ → Next) → Next
 unfolding read_in above
-get bs f = elim (read bs) [ number x rest ↦ f x rest | bad ↦ refuse (read_refusal Bad) ]
+get bs f = elim (read bs) [ number x rest ↦ f x rest | bad ↦ refuse (read_refusal None) ]
 
 abbrev pub get_three : List ℕ → (ℕ → ℕ → ℕ → List ℕ → Next) → Next
 get_three bs g = get bs (λ a r. get r (λ b r. get r (λ c r. g a b c r)))

@@ -3,10 +3,63 @@
 #![tactic(auto)]
 
 ghost use Rattle.std.specs.Prelude.{◌≡◌, ◌≤◌, length};
-ghost use Rattle.player.specs.Places.{triple_at, side_at, arguments_at, next_at, head_at};
+ghost use Rattle.player.specs.Refusals.{number_of, numbered};
+ghost use Rattle.player.specs.Places.{triple_at, side_at, leaf_at, join_at, request_at, arguments_at, followed, next_at, head_at};
 
-use number::Reading;
+use cert::Head;
 use totdb::Side;
+
+// Why a script is refused: at each, the first question that was answered no.
+#[derive(Clone, Copy, PartialEq, Eq)]
+pub enum Refusal {
+    // the script or the log is too long
+    TooLong,
+    // no number reads here
+    NoNumber,
+    // the head's variable or step is out of range
+    Head,
+    // a command after a close
+    Closed,
+    // no command has this code
+    NoCommand,
+    // the leaf's variable is not below the first output variable
+    LeafVariable,
+    // the leaf's negation is a leaf, or there are as many leaves as there may be
+    Leaf,
+    NoNode,
+    // a join of a node with itself, or of a node that is under a join
+    NodeInUse,
+    // the window is not within the node
+    Window,
+    // the node has no such value
+    Value,
+    Direction,
+    // what the command writes does not fit in the log
+    LogFull,
+}
+
+impl Refusal {
+    // The question's number, as an answer has it. 13 is not used.
+    pub fn number(self) -> u32
+        ensures { result ≡ number_of self }
+    {
+        match self {
+            Refusal::TooLong => 1,
+            Refusal::NoNumber => 2,
+            Refusal::Head => 3,
+            Refusal::Closed => 4,
+            Refusal::NoCommand => 5,
+            Refusal::LeafVariable => 6,
+            Refusal::Leaf => 7,
+            Refusal::NoNode => 8,
+            Refusal::NodeInUse => 9,
+            Refusal::Window => 10,
+            Refusal::Value => 11,
+            Refusal::Direction => 12,
+            Refusal::LogFull => 14,
+        }
+    }
+}
 
 // A leaf with its literal; a join of two sides; a request of a node's value in a direction (1 if,
 // 2 only-if, 3 both); a close.
@@ -18,142 +71,87 @@ pub enum Command {
     Close,
 }
 
-// What stands at a place: a command, with the place after it; or a command that fails the question
-// of a number; or nothing, where a code would stand.
-#[derive(Clone, Copy)]
-pub enum CommandReading {
-    Command(Command, usize),
-    Refuse(u32),
-    End,
-}
-
 // Three numbers in a row, with the place after them.
-#[derive(Clone, Copy)]
-pub enum TripleReading {
-    Triple(u32, u32, u32, usize),
-    Bad,
-}
-
-#[derive(Clone, Copy)]
-pub enum SideReading {
-    Side(Side, usize),
-    Bad,
-}
-
-// The first variable and the first step, with the place after them.
-#[derive(Clone, Copy)]
-pub enum HeadReading {
-    Head(u32, u32, usize),
-    Bad,
-}
-
-fn triple(script: &[u8], at: usize) -> TripleReading
+fn triple(script: &[u8], at: usize) -> Option<((u32, u32, u32), usize)>
     ensures { result ≡ triple_at script.now at }
 {
-    let Reading::Number(a, after_a) = number::read(script, at) else {
-        return TripleReading::Bad;
-    };
-    let Reading::Number(b, after_b) = number::read(script, after_a) else {
-        return TripleReading::Bad;
-    };
-    let Reading::Number(c, end) = number::read(script, after_b) else {
-        return TripleReading::Bad;
-    };
-    TripleReading::Triple(a, b, c, end)
+    let (a, after_a) = number::read(script, at)?;
+    let (b, after_b) = number::read(script, after_a)?;
+    let (c, end) = number::read(script, after_b)?;
+    Some(((a, b, c), end))
 }
 
-fn side(script: &[u8], at: usize) -> SideReading
+fn side(script: &[u8], at: usize) -> Option<(Side, usize)>
     ensures { result ≡ side_at script.now at }
 {
-    let TripleReading::Triple(node, offset, limit, end) = triple(script, at) else {
-        return SideReading::Bad;
-    };
+    let ((node, offset, limit), end) = triple(script, at)?;
     let s = Side {
         node: node as usize,
         offset: offset as usize,
         limit: limit as usize,
     };
-    SideReading::Side(s, end)
+    Some((s, end))
 }
 
-fn leaf(script: &[u8], at: usize) -> CommandReading
-    ensures { result ≡ arguments_at 1 script.now at }
+fn leaf(script: &[u8], at: usize) -> Option<(Command, usize)>
+    ensures { result ≡ leaf_at script.now at }
 {
-    let Reading::Number(literal, end) = number::read(script, at) else {
-        return CommandReading::Refuse(2);
-    };
-    CommandReading::Command(Command::Leaf(literal), end)
+    let (literal, end) = number::read(script, at)?;
+    Some((Command::Leaf(literal), end))
 }
 
-fn join(script: &[u8], at: usize) -> CommandReading
-    ensures { result ≡ arguments_at 2 script.now at }
+fn join(script: &[u8], at: usize) -> Option<(Command, usize)>
+    ensures { result ≡ join_at script.now at }
 {
-    let SideReading::Side(l, middle) = side(script, at) else {
-        return CommandReading::Refuse(2);
-    };
-    let SideReading::Side(r, end) = side(script, middle) else {
-        return CommandReading::Refuse(2);
-    };
-    CommandReading::Command(Command::Join(l, r), end)
+    let (l, middle) = side(script, at)?;
+    let (r, end) = side(script, middle)?;
+    Some((Command::Join(l, r), end))
 }
 
-fn request(script: &[u8], at: usize) -> CommandReading
-    ensures { result ≡ arguments_at 3 script.now at }
+fn request(script: &[u8], at: usize) -> Option<(Command, usize)>
+    ensures { result ≡ request_at script.now at }
 {
-    let TripleReading::Triple(node, value, direction, end) = triple(script, at) else {
-        return CommandReading::Refuse(2);
-    };
-    CommandReading::Command(
+    let ((node, value, direction), end) = triple(script, at)?;
+    Some((
         Command::Request(node as usize, value as usize, direction),
         end,
-    )
+    ))
 }
 
-// What follows a code.
-fn arguments(script: &[u8], at: usize, code: u32) -> CommandReading
+// The command of a code, whose numbers follow the code, with the place after them.
+fn arguments(script: &[u8], at: usize, code: u32) -> Result<(Command, usize), Refusal>
     requires { at ≤ length script.now }
-    ensures { result ≡ arguments_at code script.now at }
+    ensures { followed (numbered result) ≡ arguments_at code script.now at }
 {
-    if code == 1 {
-        return leaf(script, at);
+    match code {
+        1 => leaf(script, at).ok_or(Refusal::NoNumber),
+        2 => join(script, at).ok_or(Refusal::NoNumber),
+        3 => request(script, at).ok_or(Refusal::NoNumber),
+        4 => Ok((Command::Close, at)),
+        _ => Err(Refusal::NoCommand),
     }
-    if code == 2 {
-        return join(script, at);
-    }
-    if code == 3 {
-        return request(script, at);
-    }
-    if code == 4 {
-        return CommandReading::Command(Command::Close, at);
-    }
-    CommandReading::Refuse(5)
 }
 
-// What stands at `at`, which may lie past the end: questions 2, 4 and 5.
-pub fn next(script: &[u8], at: usize, closed: bool) -> CommandReading
-    ensures { result ≡ next_at closed script.now at }
+// The command at `at`, which may lie past the end, with the place after it: questions 2, 4 and 5.
+// None: the script ends here, where a code would stand.
+pub fn next(script: &[u8], at: usize, closed: bool) -> Result<Option<(Command, usize)>, Refusal>
+    ensures { numbered result ≡ next_at closed script.now at }
 {
     if script.len() <= at {
-        return CommandReading::End;
+        return Ok(None);
     }
-    let Reading::Number(code, end) = number::read(script, at) else {
-        return CommandReading::Refuse(2);
-    };
+    let (code, end) = number::read(script, at).ok_or(Refusal::NoNumber)?;
     if closed {
-        return CommandReading::Refuse(4);
+        return Err(Refusal::Closed);
     }
-    arguments(script, end, code)
+    Ok(Some(arguments(script, end, code)?))
 }
 
-// The head, which stands at the front.
-pub fn head(script: &[u8]) -> HeadReading
+// The head, which stands at the front, with the place after it.
+pub fn head(script: &[u8]) -> Option<(Head, usize)>
     ensures { result ≡ head_at script.now }
 {
-    let Reading::Number(variable, middle) = number::read(script, 0) else {
-        return HeadReading::Bad;
-    };
-    let Reading::Number(step, end) = number::read(script, middle) else {
-        return HeadReading::Bad;
-    };
-    HeadReading::Head(variable, step, end)
+    let (variable, middle) = number::read(script, 0)?;
+    let (step, end) = number::read(script, middle)?;
+    Some((Head { variable, step }, end))
 }

@@ -4,7 +4,7 @@ use mathlib.Core.List.{List, [], ◌∷◌, ◌++◌, map}
 use Prim.Native.Nat.{ℕ, zero, suc, ◌-◌, ◌/◌, ◌%◌}
 use lib.ListN.{take, replicate, take-append-drop}
 use Rattle.player.specs.Player.{Outcome, played}
-use Rattle.player.proofs.Refusal.{padded}
+use Rattle.player.proofs.Plays.{padded}
 
 -- An outcome with another log.
 unfoldable pub with_log : List ℕ → Outcome → Outcome

@@ -10,6 +10,7 @@ use Rattle.sizes.specs.Sizes.{most_nodes}
 use Rattle.record.specs.Record.{bytes, steps}
 use Rattle.cert.specs.State.{Head, start}
 use Rattle.player.specs.Player.{outcome, Outcome, plays, Padded}
+use Rattle.player.specs.Refusals.{number_or_none}
 use Rattle.player.specs.Script.{Commands}
 use Rattle.totlog.specs.Entry.{answer_after, answer_of, Finished, Tells}
 use Rattle.answer.specs.declared.Answer.{Answer}
@@ -25,13 +26,13 @@ module _ {h : Head} {c : ℕ} {cs : Commands} {log : List ℕ} {r : PlayEnd} (f 
   pub finished_nodes : r.totals.nodes ≤ most_nodes
   finished_nodes = omega (arith, f.reported.nodes, f.few)
 
-  answer_is : answer_after h.step r ≡ answer_of (outcome c r.number r.place f.state)
+  answer_is : answer_after h.step r ≡ answer_of (outcome c (number_or_none r.refusal) r.place f.state)
   unfolding outcome
   answer_is =
       let k : r.totals.step - h.step ≡ steps f.state.log = omega (arith, f.reported.step, f.counted) in
       rw (k, f.reported.used, f.reported.clauses, f.reported.nodes)
 
-  front_is : take (length (bytes f.state.log)) log ≡ take (length (bytes f.state.log)) (outcome c r.number r.place f.state).log
+  front_is : take (length (bytes f.state.log)) log ≡ take (length (bytes f.state.log)) (outcome c (number_or_none r.refusal) r.place f.state).log
   unfolding outcome
   front_is =
       ap (λ (n : ℕ). take n log) (sym f.reported.used) ∙ f.reported.whole

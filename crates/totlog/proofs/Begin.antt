@@ -1,12 +1,12 @@
 -- What a play begins with: a table of no nodes, a store of zeros but for the first step, and a log of which nothing is written.
-use mathlib.Core.Path.{◌≡◌, refl, sym, ◌∙◌, ap}
+use mathlib.Core.Path.{◌≡◌, refl, ◌∙◌, ap}
 use mathlib.Core.List.Memᴰ
 use mathlib.Core.List.{List, []}
-use Prim.Native.Nat.{ℕ, zero, suc, ◌+◌, ◌≤◌, ◌<◌}
+use Prim.Native.Nat.{ℕ, zero, suc, ◌≤◌}
 use native.Mathlib.Omega.{arith}
-use lib.ListN.{length, get_or, set, replicate, length-replicate, length-set}
+use lib.ListN.{length, get_or, set, replicate, length-set}
 use lib.Seq.{get_or-set_same, get_or-set_other}
-use Rattle.sizes.specs.Sizes.{row_at, marks_at, step_at, clauses_at, store_at}
+use Rattle.sizes.specs.Sizes.{row_at, marks_at, step_at, clauses_at}
 use Rattle.record.specs.Record.{bytes, steps, clauses}
 use Rattle.record.specs.Writing.{content, buffer, written}
 use Rattle.record.proofs.Writing.{content_in}
@@ -22,7 +22,7 @@ use Rattle.define.specs.Represents.{memory, Exact}
 use Rattle.player.proofs.Formed.{formed_start, head_low}
 use Rattle.commands.specs.Standing.{Standing, Room}
 use Rattle.commands.specs.declared.Totals.{Totals}
-use Rattle.totlog.specs.Entry.{Made, Rows, Lent}
+use Rattle.totlog.specs.Entry.{Rows, Lent}
 
 -- ---- the tables
 
@@ -52,16 +52,6 @@ table_none ns h = record {
   };
 }
 
--- k rows, where k nodes are enough.
-pub rows_in : (n k : ℕ) → ((leaves joins : ℕ) → Made n leaves joins → leaves + joins < k) → (ns store : List ℕ) → row_at k ≤ length ns
-    → store_at k ≤ length store → Rows n ns store
-rows_in n k enough ns store p q = record {
-  room = λ leaves joins m. let h = enough leaves joins m in record { row = omega (arith, p, h); store_row = omega (arith, q, h) };
-}
-
-pub zeros_in : (n : ℕ) → replicate {A = ℕ} n 0 ≡ replicate (length (replicate {A = ℕ} n 0)) 0
-zeros_in n = ap (λ (k : ℕ). replicate {A = ℕ} k 0) (sym (length-replicate {A = ℕ} n 0))
-
 -- ---- a play begins
 
 no_key : (k : Key) → Used [] k → ⊥
@@ -73,7 +63,11 @@ no_key (window n f m) u = no_side u.of
 abbrev pub begin : Head → Totals
 begin h = record { at = 0; step = h.step; clauses = 0; nodes = 0; leaves = 0; variable = h.variable }
 
-module _ {script : List ℕ} {from : ℕ} {log : List ℕ} {h : Head} {ns store : List ℕ} (l : Lent script from log h)
+nothing_written : (h : Head) (log : List ℕ) → content (buffer log 0) ≡ written (bytes (start h).log)
+unfolding start bytes
+nothing_written h log = content_in log 0 (omega arith)
+
+module _ {script : List ℕ} {from capacity : ℕ} {h : Head} {ns store : List ℕ} (l : Lent script from capacity h)
     (rows : Rows (length script) ns store) (zeros : store ≡ replicate (length store) 0) where
   -- The store, with the first step.
   abbrev begun : List ℕ
@@ -96,15 +90,11 @@ module _ {script : List ℕ} {from : ℕ} {log : List ℕ} {h : Head} {ns store 
   no_marks : get_or begun marks_at 0 ≡ 0
   no_marks = blank marks_at (λ e. absurd (omega arith))
 
-  nothing_written : content (buffer log 0) ≡ written (bytes (start h).log)
-  unfolding start bytes
-  nothing_written = content_in log 0 (omega arith)
-
-  exact_start : Exact (length log) [] (memory begun log 0) (start h)
+  exact_start : (log : List ℕ) → length log ≡ capacity → Exact capacity [] (memory begun log 0) (start h)
   unfolding start keys
-  exact_start = record {
+  exact_start log size = record {
     small = l.small;
-    logged = record { size = refl; is = unfold start in nothing_written };
+    logged = record { size = size; is = unfold start in nothing_written h log };
     stores = record {
       room = omega (arith, first.store_row, length-set store step_at h.step);
       firsts = record { is = λ k u. absurd (no_key k u) };
@@ -128,11 +118,11 @@ module _ {script : List ℕ} {from : ℕ} {log : List ℕ} {h : Head} {ns store 
     };
   }
 
-  pub standing_begin : Standing h (length log) ns (memory begun log 0) (begin h) (start h)
-  standing_begin = record {
+  pub standing_begin : (log : List ℕ) → length log ≡ capacity → Standing h capacity ns (memory begun log 0) (begin h) (start h)
+  standing_begin log size = record {
     formed = formed_start h l.head;
     table = unfold start in table_none ns (omega (arith, first.row));
-    exact = unfold start in exact_start;
+    exact = unfold start in exact_start log size;
     step = unfold start in refl;
     clauses = unfold start clauses in refl;
     nodes = unfold start in refl;

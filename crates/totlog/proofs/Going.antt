@@ -4,20 +4,21 @@ use mathlib.Core.Bool.{Bool}
 use mathlib.Core.List.{List, ◌∷◌}
 use Prim.Native.Nat.{ℕ, zero, suc, ◌+◌, ◌-◌, ◌≤◌, ◌<◌}
 use native.Mathlib.Omega.{arith}
+use Rattle.std.specs.Prelude.{Some, None, Result, Ok, Err}
 use lib.ListN.{length, drop}
 use Rattle.totdb.specs.Nodes.{leaf_count}
 use Rattle.cert.specs.State.{State, Head, start}
 use Rattle.define.specs.Represents.{memory}
 use Rattle.player.specs.Places.{next_at}
 use Rattle.player.specs.Player.{plays, outcome, Outcome}
+use Rattle.player.specs.Refusals.{number_of, number_or_none}
 use Rattle.player.specs.Script.{Commands, closes, read_commands, stop, before}
 use Rattle.player.specs.declared.Command.{Command}
-use Rattle.player.specs.declared.CommandReading.{CommandReading}
+use Rattle.player.specs.declared.Refusal.{Refusal}
 use Rattle.player.proofs.NodeBytes.{Took, took_on}
-use Rattle.player.proofs.Refusal.{play_refused, plays_done, plays_ended, plays_accepted, plays_refused}
+use Rattle.player.proofs.Plays.{plays_done, plays_ended, plays_accepted, plays_refused}
 use Rattle.player.proofs.Tree.{few_nodes_lem}
 use Rattle.commands.specs.Standing.{Standing, Room, Reported, Played, went, stopped}
-use Rattle.commands.specs.declared.CommandEnd.{CommandEnd}
 use Rattle.commands.specs.declared.Totals.{Totals}
 use Rattle.commands.proofs.CommandEnds.{fits, reported}
 use Rattle.totlog.specs.Entry.{Rows, Finished}
@@ -41,7 +42,7 @@ module _ {h : Head} {c : ℕ} {script : List ℕ} {cs : Commands} {ns store log 
     (inside : at ≤ length script) (g : Going h c script cs ns store log z at place closed) where
   -- It ends in the state that the tables represent.
   ends_here : (n p : ℕ) → plays_all h c (read_commands g.fuel closed (drop at script)) place g.state ≡ outcome c n p g.state
-      → (log' : List ℕ) (z' : Totals) → Reported c log' z' g.state → (r : PlayEnd) → r.number ≡ n → r.place ≡ p → r.totals ≡ z'
+      → (log' : List ℕ) (z' : Totals) → Reported c log' z' g.state → (r : PlayEnd) → number_or_none r.refusal ≡ n → r.place ≡ p → r.totals ≡ z'
       → Finished h c cs log' r
   ends_here n p e log' z' rep r a b d = record {
     state = g.state;
@@ -55,17 +56,18 @@ module _ {h : Head} {c : ℕ} {script : List ℕ} {cs : Commands} {ns store log 
   now_reported : Reported c log z g.state
   now_reported = reported g.standing
 
-  pub finished : next_at closed script at ≡ CommandReading.End → (r : PlayEnd) → r.number ≡ 0 → r.place ≡ place → r.totals ≡ z → Finished h c cs log r
+  pub finished : next_at closed script at ≡ Ok None → (r : PlayEnd) → r.refusal ≡ None → r.place ≡ place → r.totals ≡ z → Finished h c cs log r
   finished e r a b d =
       ends_here 0 place
       (ap (λ (k : Commands). plays_all h c k place g.state) (rest_end script closed at g.fuel inside g.enough e)
-      ∙ (unfold stop in plays_done h c 0 place g.state)) log z now_reported r a b d
+      ∙ (unfold stop in plays_done h c 0 place g.state)) log z now_reported r (ap number_or_none a) b d
 
-  pub stopped_reading : (n : ℕ) → next_at closed script at ≡ CommandReading.Refuse n → (r : PlayEnd) → r.number ≡ n → r.place ≡ place + 1
+  pub stopped_reading : (f : Refusal) → next_at closed script at ≡ Err (number_of f) → (r : PlayEnd) → r.refusal ≡ Some f → r.place ≡ place + 1
       → r.totals ≡ z → Finished h c cs log r
-  stopped_reading n e r a b d =
+  stopped_reading f e r a b d =
+      let n = number_of f in
       let q = rest_refuse script closed at g.fuel inside g.enough n e in
-      ends_here n (place + 1) (ap (λ (k : Commands). plays_all h c k place g.state) q.0 ∙ by n q.1) log z now_reported r a b d
+      ends_here n (place + 1) (ap (λ (k : Commands). plays_all h c k place g.state) q.0 ∙ by n q.1) log z now_reported r (ap number_or_none a) b d
     where
       by : (n : ℕ) → 0 < n → plays_all h c (stop n) place g.state ≡ outcome c n (place + 1) g.state
       by zero l = absurd (omega arith)
@@ -74,7 +76,7 @@ module _ {h : Head} {c : ℕ} {script : List ℕ} {cs : Commands} {ns store log 
           unfold stop in plays_ended h c 0 m place g.state in
           ended ∙ ap (λ (k : ℕ). outcome c (suc m) k g.state) (omega arith)
 
-  module _ {k : Command} {e : ℕ} (reads : next_at closed script at ≡ CommandReading.Command k e) where
+  module _ {k : Command} {e : ℕ} (reads : next_at closed script at ≡ Ok (Some (k, e))) where
     after : After script closed at g.fuel k e
     after = rest_command script closed at g.fuel inside g.enough k e reads
 
@@ -102,30 +104,33 @@ module _ {h : Head} {c : ℕ} {script : List ℕ} {cs : Commands} {ns store log 
         }) in
         record { row = omega (arith, r.row, a, st.nodes, t.counted); store_row = omega (arith, r.store_row, b, st.nodes, t.counted) }
 
-    module _ {ns' store' log' : List ℕ} {x : CommandEnd} (p : Played h c k g.state ns' store' log' x) where
-      pub goes_on : x.number ≡ 0 → (place' : ℕ) → place' ≡ place + 1 → (closed' : Bool) → closed' ≡ closes k
-          → Going h c script cs ns' store' log' x.totals e place' closed'
-      goes_on zero_number place' a closed' b = by p
+    module _ {ns' store' log' : List ℕ} {x : Result Totals Refusal} (p : Played h c k g.state z ns' store' log' x) where
+      pub goes_on : {y : Totals} → x ≡ Ok y → (place' : ℕ) → place' ≡ place + 1 → (closed' : Bool) → closed' ≡ closes k
+          → Going h c script cs ns' store' log' y e place' closed'
+      goes_on {y} done place' a closed' b = by p
         where
-          by : Played h c k g.state ns' store' log' x
-              → Going h c script cs ns' store' log' x.totals e place' closed'
-          by (went u q n st) = record {
-            state = u;
-            standing = st;
-            fuel = after.left;
-            enough = after.still;
-            is = g.is ∙ is_after ∙ plays_accepted h c rest.ending k rest.list place g.state u q
-                ∙ (rw (a, b) (unfold rest in ap (λ (i : ℕ). plays_all h c (read_commands after.left (closes k) (drop e script)) i u) (omega arith)));
-            took = took_on h g.state g.standing.formed.sound at e g.took c k u q after.takes;
-          }
-          by (stopped n q m r) = absurd (omega (arith, play_refused h c k g.state n q))
+          by : Played h c k g.state z ns' store' log' x → Going h c script cs ns' store' log' y e place' closed'
+          by (went u w q n st) =
+              let same : w ≡ y = cc in
+              record {
+                state = u;
+                standing = rw same at st;
+                fuel = after.left;
+                enough = after.still;
+                is = g.is ∙ is_after ∙ plays_accepted h c rest.ending k rest.list place g.state u q
+                    ∙ (rw (a, b) (unfold rest in ap (λ (i : ℕ). plays_all h c (read_commands after.left (closes k) (drop e script)) i u) (omega arith)));
+                took = took_on h g.state g.standing.formed.sound at e g.took c k u q after.takes;
+              }
+          by (stopped f q n r) = absurd (let z : ◌≡◌ {A = ℕ} 0 1 = cc in omega arith)
 
-      pub stops : ¬ (x.number ≡ 0) → (r : PlayEnd) → r.number ≡ x.number → r.place ≡ place + 1 → r.totals ≡ x.totals → Finished h c cs log' r
-      stops some r a b d = by p
+      pub stops : {f : Refusal} → x ≡ Err f → (r : PlayEnd) → r.refusal ≡ Some f → r.place ≡ place + 1 → r.totals ≡ z → Finished h c cs log' r
+      stops {f} failed r a b d = by p
         where
-          by : Played h c k g.state ns' store' log' x → Finished h c cs log' r
-          by (went u q n st) = absurd (some n)
-          by (stopped n q m rep) =
-              ends_here n (place + 1)
-              (is_after ∙ plays_refused h c rest.ending k rest.list place g.state n q ∙ ap (λ (i : ℕ). outcome c n i g.state) (omega arith)) log'
-              x.totals rep r (a ∙ m) b d
+          by : Played h c k g.state z ns' store' log' x → Finished h c cs log' r
+          by (went u w q n st) = absurd (let z : ◌≡◌ {A = ℕ} 0 1 = cc in omega arith)
+          by (stopped v q n rep) =
+              let same : f ≡ v = cc in
+              ends_here (number_of v) (place + 1)
+              (is_after ∙ plays_refused h c rest.ending k rest.list place g.state (number_of v) q
+              ∙ ap (λ (i : ℕ). outcome c (number_of v) i g.state) (omega arith))
+              log' z rep r (ap number_or_none a ∙ ap number_of same) b d

@@ -4,12 +4,13 @@ use mathlib.Core.Bool.{Bool}
 use mathlib.Core.List.{List, [], ◌∷◌}
 use Prim.Native.Nat.{ℕ, zero, suc, ◌+◌, ◌-◌, ◌≤◌, ◌<◌}
 use native.Mathlib.Omega.{arith}
+use Rattle.std.specs.Prelude.{Option, Some, None, Ok, Err}
+use Rattle.std.proofs.lemmas.Option.{some_pair_parts}
 use lib.ListN.{length, drop, length-append, length-drop}
 use lib.Seq.{drop-append_seam, drop-drop}
 use Rattle.player.specs.Places.{placed, next_at}
 use Rattle.player.specs.Script.{Next, command, refuse, end, read_command, closes, stop, before, read_commands, command_numbers}
 use Rattle.player.specs.declared.Command.{Command}
-use Rattle.player.specs.declared.CommandReading.{CommandReading}
 use Rattle.player.proofs.Coding.{refused_number}
 use Rattle.player.proofs.NodeBytes.{command_takes}
 use Rattle.player.proofs.Reading.{command_front}
@@ -17,25 +18,25 @@ use Rattle.player.proofs.Reading.{command_front}
 -- ---- the reading at a place, taken back
 
 module _ (s : List ℕ) where
-  placed_end : (x : Next) → placed s x ≡ CommandReading.End → x ≡ end
+  placed_end : (x : Next) → placed s x ≡ Ok None → x ≡ end
   unfolding placed
   placed_end (command c r) e = absurd (let z : ◌≡◌ {A = ℕ} 0 1 = cc in omega arith)
   placed_end (refuse n) e = absurd (let z : ◌≡◌ {A = ℕ} 0 1 = cc in omega arith)
   placed_end end e = refl
 
-  placed_refuse : (x : Next) (n : ℕ) → placed s x ≡ CommandReading.Refuse n → x ≡ refuse n
+  placed_refuse : (x : Next) (n : ℕ) → placed s x ≡ Err n → x ≡ refuse n
   unfolding placed
   placed_refuse (command c r) n e = absurd (let z : ◌≡◌ {A = ℕ} 0 1 = cc in omega arith)
   placed_refuse (refuse m) n e = let p : m ≡ n = cc in ap refuse p
   placed_refuse end n e = absurd (let z : ◌≡◌ {A = ℕ} 0 1 = cc in omega arith)
 
-  placed_command : (x : Next) (c : Command) (e : ℕ) → placed s x ≡ CommandReading.Command c e
+  placed_command : (x : Next) (c : Command) (e : ℕ) → placed s x ≡ Ok (Some (c, e))
       → (r : List ℕ) × (x ≡ command c r) × (e ≡ length s - length r)
   unfolding placed
   placed_command (command d r) c e h =
-      let p : d ≡ c = cc in
-      let q : length s - length r ≡ e = cc in
-      (r, ap (λ (k : Command). command k r) p, sym q)
+      let some : ◌≡◌ {A = Option (Command × ℕ)} (Some (d, length s - length r)) (Some (c, e)) = cc in
+      let p = some_pair_parts d c (length s - length r) e some in
+      (r, ap (λ (k : Command). command k r) p.0, sym p.1)
   placed_command (refuse n) c e h = absurd (let z : ◌≡◌ {A = ℕ} 0 1 = cc in omega arith)
   placed_command end c e h = absurd (let z : ◌≡◌ {A = ℕ} 0 1 = cc in omega arith)
 
@@ -45,7 +46,7 @@ module _ (s : List ℕ) (closed : Bool) (at fuel : ℕ) (inside : at ≤ length 
   rest_length : length (drop at s) ≡ length s - at
   rest_length = length-drop at s
 
-  pub rest_end : next_at closed s at ≡ CommandReading.End → read_commands fuel closed (drop at s) ≡ stop 0
+  pub rest_end : next_at closed s at ≡ Ok None → read_commands fuel closed (drop at s) ≡ stop 0
   unfolding read_commands
   rest_end e = by fuel
     where
@@ -53,7 +54,7 @@ module _ (s : List ℕ) (closed : Bool) (at fuel : ℕ) (inside : at ≤ length 
       by zero = refl
       by (suc k) = rw (placed_end s (read_command closed (drop at s)) e, read_commands)
 
-  pub rest_refuse : (n : ℕ) → next_at closed s at ≡ CommandReading.Refuse n → (read_commands fuel closed (drop at s) ≡ stop n) × (0 < n)
+  pub rest_refuse : (n : ℕ) → next_at closed s at ≡ Err n → (read_commands fuel closed (drop at s) ≡ stop n) × (0 < n)
   unfolding read_commands
   rest_refuse n e = (by fuel enough, (refused_number closed (drop at s) n is).0)
     where
@@ -78,7 +79,7 @@ pub record After (s : List ℕ) (closed : Bool) (at fuel : ℕ) (c : Command) (e
   pub reads : read_commands fuel closed (drop at s) ≡ before c (read_commands left (closes c) (drop e s))
 
 pub rest_command : (s : List ℕ) (closed : Bool) (at fuel : ℕ) → at ≤ length s → length s - at ≤ fuel → (c : Command) (e : ℕ)
-    → next_at closed s at ≡ CommandReading.Command c e → After s closed at fuel c e
+    → next_at closed s at ≡ Ok (Some (c, e)) → After s closed at fuel c e
 unfolding read_commands
 rest_command s closed at fuel inside enough c e h =
     let r = placed_command s (read_command closed (drop at s)) c e h in

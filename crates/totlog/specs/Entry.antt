@@ -1,13 +1,15 @@
 -- The answer of the entry, and what its parts are handed and come to.
-use Rattle.std.specs.Prelude.{◌≡◌, true, false, List, ℕ, ◌+◌, ◌-◌, ◌*◌, ◌≤◌, ◌<◌, length, take, drop}
+use Rattle.std.specs.Prelude.{◌≡◌, true, false, Result, Ok, Err, List, ℕ, ◌+◌, ◌-◌, ◌*◌, ◌≤◌, ◌<◌, length, take, drop}
 use Rattle.record.specs.Record.{bytes, steps}
 use Rattle.answer.specs.Coded.{bytes_of, padded, word_at}
 use Rattle.answer.specs.declared.Answer.{Answer}
 use Rattle.cert.specs.State.{State, start, Head}
 use Rattle.sizes.specs.Sizes.{most_bytes, most_leaves, leaf_bytes, join_bytes}
 use Rattle.define.specs.Represents.{memory}
-use Rattle.player.specs.Player.{Outcome, outcome, plays, head_fits, played}
+use Rattle.player.specs.Player.{Outcome, outcome, plays, head_fits, played, refused_at_head}
+use Rattle.player.specs.Refusals.{number_of, number_or_none}
 use Rattle.player.specs.Script.{Commands, read_commands}
+use Rattle.player.specs.declared.Refusal.{Refusal}
 use Rattle.commands.specs.Standing.{Standing, Room, Reported}
 use Rattle.commands.specs.declared.Totals.{Totals}
 use Rattle.totlog.specs.declared.PlayEnd.{PlayEnd}
@@ -27,7 +29,7 @@ answer_of o = record {
 -- The same of a play that has ended, where the first step is `step`.
 abbrev pub answer_after : ℕ → PlayEnd → Answer
 answer_after step r = record {
-  number = r.number;
+  number = number_or_none r.refusal;
   place = r.place;
   length = r.totals.at;
   steps = r.totals.step - step;
@@ -85,16 +87,22 @@ pub record Begun (ns store log : List ℕ) (z : Totals) : Type 0 where
 -- A play that has ended in a state, which the log and the totals report.
 pub record Finished (h : Head) (c : ℕ) (cs : Commands) (log : List ℕ) (r : PlayEnd) : Type 0 where
   pub state : State
-  pub is : plays h c cs.ending cs.list 0 (start h) ≡ outcome c r.number r.place state
+  pub is : plays h c cs.ending cs.list 0 (start h) ≡ outcome c (number_or_none r.refusal) r.place state
   pub reported : Reported c log r.totals state
   pub fits : length (bytes state.log) ≤ c
   pub counted : state.next_step ≡ h.step + Rattle.record.specs.Record.steps state.log
   pub few : length state.nodes ≤ 2 * most_leaves
 
--- What the entry's parts are lent: a script with a head, and a log, that are not too long.
-pub record Lent (script : List ℕ) (from : ℕ) (log : List ℕ) (h : Head) : Type 0 where
+-- What the entry's parts are lent: a script with a head, and a log of so many bytes, that are not too long.
+pub record Lent (script : List ℕ) (from capacity : ℕ) (h : Head) : Type 0 where
   pub short : length script ≤ most_bytes
   pub headed : 0 < from
   pub inside : from ≤ length script
-  pub small : length log ≤ most_bytes
+  pub small : capacity ≤ most_bytes
   pub head : head_fits h ≡ true
+
+-- What questions 1, 2 and 3 come to: the head that the play begins with and the place after it, or the refusal at place 0.
+pub data Asked (script : List ℕ) (capacity : ℕ) (e : Result (Head × ℕ) Refusal) : Type 0 where
+  begins : (h : Head) (from : ℕ) → e ≡ Ok (h, from) → Lent script from capacity h
+      → played script capacity ≡ played_from script from h capacity → Asked script capacity e
+  turned_away : (r : Refusal) → e ≡ Err r → played script capacity ≡ refused_at_head capacity (number_of r) → Asked script capacity e

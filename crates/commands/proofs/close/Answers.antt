@@ -1,9 +1,5 @@
-use Rattle.std.proofs.Common.{arith}
 use Rattle.commands.proofs.Writes.{listed, close_ends}
 use Rattle.commands.proofs.close.Goals as goal
-
-pub number_at-marks-requires : goal.number_at-marks-requires
-number_at-marks-requires c = omega (arith, c.requires.standing.exact.stores.room)
 
 pub put_deletion-at-requires : goal.put_deletion-at-requires
 put_deletion-at-requires c = (c.requires.state.nodes, c.requires.state.stored, rw c.number_at-marks.ensures.0 (listed c.requires.standing))

@@ -8,8 +8,8 @@ use Rattle.totlog.specs.Entry.{commands_from}
 use Rattle.totlog.proofs.Going.{Going}
 use Rattle.totlog.proofs.play.Given as goal
 
-abbrev pub invariant-loop-n : goal.invariant-loop-n
-invariant-loop-n l =
+abbrev pub invariant-loop-k : goal.invariant-loop-k
+invariant-loop-k l =
     (l.at ≤ length l.script)
     × (l.place ≤ l.at)
     × (length l.nodes ≡ length l.initial.nodes)
@@ -18,6 +18,6 @@ invariant-loop-n l =
     × ((h : Head) (c : ℕ) → Standing h c l.initial.nodes (memory l.initial.store l.initial.log l.initial.t.at) l.initial.t (start h)
     → Going h c l.script (commands_from l.script l.from) l.nodes l.store l.log l.t l.at l.place l.closed)
 
-abbrev pub decreases-loop-n : goal.decreases-loop-n
-decreases-loop-n l =
+abbrev pub decreases-loop-k : goal.decreases-loop-k
+decreases-loop-k l =
     length l.script - l.at

@@ -2,7 +2,7 @@ use mathlib.Core.Path.{sym, subst}
 use Prim.Native.Nat.{ℕ}
 use lib.ListN.{length}
 use Rattle.player.specs.Player.{played, Padded}
-use Rattle.player.proofs.Refusal.{padded}
+use Rattle.player.proofs.Plays.{padded}
 use Rattle.totlog.proofs.Answered.{used_within, settled}
 use Rattle.totlog.proofs.play_into.Goals as goal
 
