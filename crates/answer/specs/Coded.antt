@@ -1,5 +1,5 @@
--- An answer as bytes, and its numbers read back.
-use Rattle.std.specs.Prelude.{List, [], ◌∷◌, ◌++◌, ℕ, ◌+◌, ◌*◌, ◌/◌, ◌%◌, get_or, take, replicate}
+-- An answer as bytes, with its numbers read back, and as text.
+use Rattle.std.specs.Prelude.{List, [], ◌∷◌, ◌++◌, ℕ, ◌+◌, ◌*◌, ◌/◌, ◌%◌, get_or, take, replicate, decimal, codes}
 use Rattle.answer.specs.declared.Answer.{Answer}
 
 -- Four bytes, low byte first.
@@ -16,3 +16,10 @@ padded n l = take n (l ++ replicate n 0)
 -- The number at a place of an answer: four bytes, low byte first.
 abbrev pub word_at : List ℕ → ℕ → ℕ
 word_at bs i = get_or bs i 0 + 256 * get_or bs (i + 1) 0 + 65536 * get_or bs (i + 2) 0 + 16777216 * get_or bs (i + 3) 0
+
+-- The six numbers in decimal, a space between them.
+abbrev pub text_of : Answer → List ℕ
+text_of a = before a.number (before a.place (before a.length (before a.steps (before a.clauses (decimal a.nodes)))))
+  where
+    before : ℕ → List ℕ → List ℕ
+    before x rest = decimal x ++ (codes " " ++ rest)
