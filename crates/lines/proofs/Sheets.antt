@@ -47,10 +47,10 @@ module _ (script : List ℕ) {log : List ℕ} {a : Answer} (p : a ≡ answer_of 
       ap (λ (cs : List (List ℕ)). flat_map line (sorted cs)) (log_clauses_lem script most_bytes) in
       rw (p, q, k, sheet_of, lines)
 
-  -- The same of what is printed, where the numbers printed are those of the answer.
-  pub refusal_printed : {p q : Page} {n c : ℕ} → Prints p (refusal n c) q → n ≡ a.number → c ≡ a.place → (a.number ≡ 0 → ⊥) → Prints p (sheet script) q
-  refusal_printed k i j h = rw (i, j, refused_sheet h) at k
+  -- The same of what is printed.
+  pub refusal_printed : {p q : Page} → Prints p (refusal a.number a.place) q → (a.number ≡ 0 → ⊥) → Prints p (sheet script) q
+  refusal_printed k h = rw (refused_sheet h) at k
 
-  pub sheet_printed : {p q r : Page} {n s c : ℕ} → Prints p (header n s c) q → Prints q (lines_at (take a.length log)) r
-      → n ≡ a.nodes → s ≡ a.steps → c ≡ a.clauses → a.number ≡ 0 → Prints p (sheet script) r
-  sheet_printed k l i j m h = rw (i, j, m, accepted_sheet h) at (after k l)
+  pub sheet_printed : {p q r : Page} → Prints p (header a.nodes a.steps a.clauses) q → Prints q (lines_at (take a.length log)) r → a.number ≡ 0
+      → Prints p (sheet script) r
+  sheet_printed k l h = rw (accepted_sheet h) at (after k l)

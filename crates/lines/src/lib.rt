@@ -1,34 +1,40 @@
 // The sheet of a script: the header and the lines of its clauses, or the refusal. `specs/Sheet.antt` says its bytes.
 #![tactic(auto)]
 
-ghost use Rattle.text.specs.Text.{page, Prints};
+ghost use Rattle.std.specs.Prelude.{◌++◌};
+ghost use Rattle.text.specs.Text.{page, Prints, spaced};
 ghost use Rattle.lines.specs.Sheet;
+
+use answer::Answer;
 
 // No sheet is longer.
 pub const MOST_SHEET: usize = 4 * sizes::MOST_BYTES + 64;
 
-// `nodes N steps S clauses C`
-fn header(out: &mut [u8], nodes: u32, steps: u32, clauses: u32) -> usize
-    ensures { Prints (page out.old 0) (Sheet.header nodes steps clauses) (page out.new result) }
+// A label and a number.
+fn labelled(out: &mut [u8], at: usize, label: &[u8], x: u32) -> usize
+    ensures { Prints (page out.old at) (label.now ++ spaced x) (page out.new result) }
 {
-    let nodes_word = text::word(out, 0, b"nodes");
-    let nodes_end = text::spaced(out, nodes_word, nodes);
-    let steps_word = text::word(out, nodes_end, b" steps");
-    let steps_end = text::spaced(out, steps_word, steps);
-    let clauses_word = text::word(out, steps_end, b" clauses");
-    let clauses_end = text::spaced(out, clauses_word, clauses);
-    text::put(out, clauses_end, 10)
+    let end = text::word(out, at, label);
+    text::spaced(out, end, x)
+}
+
+// `nodes N steps S clauses C`
+fn header(out: &mut [u8], answer: Answer) -> usize
+    ensures { Prints (page out.old 0) (Sheet.header answer.nodes answer.steps answer.clauses) (page out.new result) }
+{
+    let nodes = labelled(out, 0, b"nodes", answer.nodes);
+    let steps = labelled(out, nodes, b" steps", answer.steps);
+    let clauses = labelled(out, steps, b" clauses", answer.clauses);
+    text::put(out, clauses, b'\n')
 }
 
 // `refused N at C`
-fn refusal(out: &mut [u8], number: u32, place: u32) -> usize
-    ensures { Prints (page out.old 0) (Sheet.refusal number place) (page out.new result) }
+fn refusal(out: &mut [u8], answer: Answer) -> usize
+    ensures { Prints (page out.old 0) (Sheet.refusal answer.number answer.place) (page out.new result) }
 {
-    let word = text::word(out, 0, b"refused");
-    let number_end = text::spaced(out, word, number);
-    let at_word = text::word(out, number_end, b" at");
-    let place_end = text::spaced(out, at_word, place);
-    text::put(out, place_end, 10)
+    let refused = labelled(out, 0, b"refused", answer.number);
+    let at = labelled(out, refused, b" at", answer.place);
+    text::put(out, at, b'\n')
 }
 
 // The sheet, as far as `out` reaches, and how many bytes of it are there.
@@ -36,11 +42,10 @@ pub fn sheet(script: &[u8], out: &mut [u8]) -> usize
     ensures { Sheet.Wrote script.now out.old result out.new }
 {
     let mut log = [0u8; sizes::MOST_BYTES];
-    let a = totlog::play_into(script, &mut log);
-    if a.number != 0 {
-        return refusal(out, a.number, a.place);
+    let answer = totlog::play_into(script, &mut log);
+    if answer.number != 0 {
+        return refusal(out, answer);
     }
-    let end = header(out, a.nodes, a.steps, a.clauses);
-    let used = a.length as usize;
-    listing::all_lines(&log[..used], out, end)
+    let end = header(out, answer);
+    listing::all_lines(&log[..answer.length as usize], out, end)
 }

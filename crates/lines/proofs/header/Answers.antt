@@ -1,12 +1,8 @@
--- `lines::header` meets its contract: one writer after another.
+-- `lines::header` meets its contract: one label and number after another.
 use Rattle.text.proofs.Laws.{after}
 use Rattle.lines.specs.Sheet.{header}
 use Rattle.lines.proofs.header.Goals as goal
 
 pub returns : goal.returns
 unfolding header
-returns c =
-    after c.word-nodes_word.ensures
-    (after c.spaced-nodes_end.ensures
-    (after c.word-steps_word.ensures
-    (after c.spaced-steps_end.ensures (after c.word-clauses_word.ensures (after c.spaced-clauses_end.ensures c.put.ensures)))))
+returns c = after c.labelled-nodes.ensures (after c.labelled-steps.ensures (after c.labelled-clauses.ensures c.put.ensures))
