@@ -43,10 +43,10 @@ impl<'a> Derivation<'a> {
     ghost use Rattle.window.specs.Derivations.{IsHanded, tokens, summands};
 
     // The first value of the window that is not the derivation's: the first summand that is not empty.
-    fn first_other(self) -> usize
-        ensures { (result ≡ first_other self.entry.window.offset self.entry.value)
-            × (self.entry.window.offset < result)
-            × (result ≤ self.entry.window.offset + 2) }
+    fn first_other(&self) -> usize
+        ensures { (result ≡ first_other self.now.window.offset self.now.value)
+            × (self.now.window.offset < result)
+            × (result ≤ self.now.window.offset + 2) }
     {
         let offset = self.window.offset;
         if self.value == offset + 1 {
@@ -57,8 +57,8 @@ impl<'a> Derivation<'a> {
     }
 
     // How many tokens it has: a literal or five for each other value, and the additions between them.
-    fn count(self) -> u32
-        ensures { (at_step : Key → ℕ → ℕ) (n : ℕ) (x : Node) → result ≡ length (tokens self.entry at_step n x) }
+    fn count(&self) -> u32
+        ensures { (at_step : Key → ℕ → ℕ) (n : ℕ) (x : Node) → result ≡ length (tokens self.now at_step n x) }
     {
         let w = self.window;
         let below = self.value - w.offset - 1;
@@ -70,11 +70,11 @@ impl<'a> Derivation<'a> {
     }
 
     // The summand at s.
-    fn push_summand(self, log: &mut [u8], at: usize, s: usize) -> usize
-        requires in_window { WindowValue self.window.offset self.window.len s }
+    fn push_summand(&self, log: &mut [u8], at: usize, s: usize) -> usize
+        requires in_window { WindowValue self.now.window.offset self.now.window.len s }
         requires room { at + summand_room ≤ length log.old }
-        ensures puts { (at_step : Key → ℕ → ℕ) (n : ℕ) (x : Node) → IsHanded self.entry.window at_step n x
-            → Puts (buffer log.old at) (token_numbers (summands self.entry at_step n x s)) (buffer log.new result) }
+        ensures puts { (at_step : Key → ℕ → ℕ) (n : ℕ) (x : Node) → IsHanded self.now.window at_step n x
+            → Puts (buffer log.old at) (token_numbers (summands self.now at_step n x s)) (buffer log.new result) }
         ensures upper_bound { result ≤ at + summand_room }
     {
         let value = self.value;
@@ -99,11 +99,11 @@ impl<'a> Derivation<'a> {
     }
 
     // The summand at s and its addition to what stands before.
-    fn push_added(self, log: &mut [u8], at: usize, s: usize) -> usize
-        requires in_window { WindowValue self.window.offset self.window.len s }
+    fn push_added(&self, log: &mut [u8], at: usize, s: usize) -> usize
+        requires in_window { WindowValue self.now.window.offset self.now.window.len s }
         requires room { at + added_room ≤ length log.old }
-        ensures puts { (at_step : Key → ℕ → ℕ) (n : ℕ) (x : Node) → IsHanded self.entry.window at_step n x
-            → Puts (buffer log.old at) (token_numbers (added (summands self.entry at_step n x) s)) (buffer log.new result) }
+        ensures puts { (at_step : Key → ℕ → ℕ) (n : ℕ) (x : Node) → IsHanded self.now.window at_step n x
+            → Puts (buffer log.old at) (token_numbers (added (summands self.now at_step n x) s)) (buffer log.new result) }
         ensures upper_bound { result ≤ at + added_room }
     {
         let end = self.push_summand(log, at, s);
@@ -114,15 +114,15 @@ impl<'a> Derivation<'a> {
     }
 
     // The summands at the values of the window above `first`, each added to what stands before.
-    fn push_rest(self, log: &mut [u8], at: usize, first: usize) -> usize
-        requires in_window { WindowValue self.window.offset self.window.len first }
-        requires room { at + added_room * (self.window.offset + self.window.len - first) ≤ length log.old }
-        ensures puts { (at_step : Key → ℕ → ℕ) (n : ℕ) (x : Node) → IsHanded self.entry.window at_step n x
+    fn push_rest(&self, log: &mut [u8], at: usize, first: usize) -> usize
+        requires in_window { WindowValue self.now.window.offset self.now.window.len first }
+        requires room { at + added_room * (self.now.window.offset + self.now.window.len - first) ≤ length log.old }
+        ensures puts { (at_step : Key → ℕ → ℕ) (n : ℕ) (x : Node) → IsHanded self.now.window at_step n x
             → Puts (buffer log.old at)
-            (token_numbers (flat_map (added (summands self.entry at_step n x))
-            (range (first + 1) (self.entry.window.offset + self.entry.window.len - first))))
+            (token_numbers (flat_map (added (summands self.now at_step n x))
+            (range (first + 1) (self.now.window.offset + self.now.window.len - first))))
             (buffer log.new result) }
-        ensures upper_bound { result ≤ at + added_room * (self.entry.window.offset + self.entry.window.len - first) }
+        ensures upper_bound { result ≤ at + added_room * (self.now.window.offset + self.now.window.len - first) }
     {
         let mut end = at;
         for s in first + 1..self.window.offset + self.window.len + 1 {
@@ -132,10 +132,10 @@ impl<'a> Derivation<'a> {
     }
 
     // The derivation, where there is room.
-    fn push(self, log: &mut [u8], at: usize) -> usize
+    fn push(&self, log: &mut [u8], at: usize) -> usize
         requires { at + derivation_room ≤ length log.old }
-        ensures puts { (at_step : Key → ℕ → ℕ) (n : ℕ) (x : Node) → IsHanded self.entry.window at_step n x
-            → Puts (buffer log.old at) (numbers (derivation (tokens self.entry at_step n x))) (buffer log.new result) }
+        ensures puts { (at_step : Key → ℕ → ℕ) (n : ℕ) (x : Node) → IsHanded self.now.window at_step n x
+            → Puts (buffer log.old at) (numbers (derivation (tokens self.now at_step n x))) (buffer log.new result) }
         ensures upper_bound { result ≤ at + derivation_room }
     {
         let first = self.first_other();
@@ -146,9 +146,9 @@ impl<'a> Derivation<'a> {
     }
 
     // The derivation, if it fits.
-    fn put(self, log: &mut [u8], at: usize) -> usize
-        ensures { (at_step : Key → ℕ → ℕ) (n : ℕ) (x : Node) → IsHanded self.entry.window at_step n x
-            → Puts (buffer log.old at) (numbers (derivation (tokens self.entry at_step n x))) (buffer log.new result) }
+    fn put(&self, log: &mut [u8], at: usize) -> usize
+        ensures { (at_step : Key → ℕ → ℕ) (n : ℕ) (x : Node) → IsHanded self.now.window at_step n x
+            → Puts (buffer log.old at) (numbers (derivation (tokens self.now at_step n x))) (buffer log.new result) }
     {
         record::put_record::<DERIVATION_ROOM, _, _>(log, at, self, Derivation::push)
     }
@@ -158,11 +158,11 @@ impl<'a> Window<'a> {
     ghost use Rattle.window.specs.Derivations.{IsHanded};
 
     // The derivations of all its values.
-    fn put_values(self, log: &mut [u8], at: usize) -> usize
-        ensures { (at_step : Key → ℕ → ℕ) (n : ℕ) (x : Node) → IsHanded self.entry at_step n x
+    fn put_values(&self, log: &mut [u8], at: usize) -> usize
+        ensures { (at_step : Key → ℕ → ℕ) (n : ℕ) (x : Node) → IsHanded self.now at_step n x
             → Puts (buffer log.old at)
-            (flat_map numbers (flat_map (window_pair at_step n x self.entry.offset self.entry.len)
-            (range (self.entry.offset + 1) self.entry.len)))
+            (flat_map numbers (flat_map (window_pair at_step n x self.now.offset self.now.len)
+            (range (self.now.offset + 1) self.now.len)))
             (buffer log.new result) }
     {
         let offset = self.offset;
@@ -170,12 +170,12 @@ impl<'a> Window<'a> {
         let mut end = at;
         for v in offset + 1..offset + len + 1 {
             let if_of = Derivation {
-                window: self,
+                window: *self,
                 value: v,
                 only_if: false,
             };
             let only_if_of = Derivation {
-                window: self,
+                window: *self,
                 value: v,
                 only_if: true,
             };

@@ -5,8 +5,8 @@ use Rattle.window.proofs.Derivation.count.Goals as goal
 
 pub returns-then-self : goal.returns-then-self
 returns-then-self c = λ at_step n x.
-    rw (tokens_length c.args.self.only_if at_step n x c.args.self.value c.args.self.window.offset c.args.self.window.len c.args.self.in_window.above c.args.self.in_window.below, c.if-self.true) (omega arith)
+    rw (tokens_length c.args.self.now.only_if at_step n x c.args.self.now.value c.args.self.now.window.offset c.args.self.now.window.len c.args.self.now.in_window.above c.args.self.now.in_window.below, c.if-self.true) (omega arith)
 
 pub returns : goal.returns
 returns c = λ at_step n x.
-    rw (tokens_length c.args.self.only_if at_step n x c.args.self.value c.args.self.window.offset c.args.self.window.len c.args.self.in_window.above c.args.self.in_window.below, c.if-self.false) (omega arith)
+    rw (tokens_length c.args.self.now.only_if at_step n x c.args.self.now.value c.args.self.now.window.offset c.args.self.now.window.len c.args.self.now.in_window.above c.args.self.now.in_window.below, c.if-self.false) (omega arith)

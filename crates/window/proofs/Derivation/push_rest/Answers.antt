@@ -22,11 +22,11 @@ loop-s-preserved c =
     let from : c.args.first + 1 ≤ c.loop-s.s = search rules in (
       omega (arith, c.push_added-end.ensures.upper_bound),
       λ at_step n x handed.
-          rw (range_more (added (summands c.args.self at_step n x)) (c.args.first + 1) c.loop-s.s from, tokens_append)
+          rw (range_more (added (summands c.args.self.now at_step n x)) (c.args.first + 1) c.loop-s.s from, tokens_append)
           (after (c.loop-s.invariant.1 at_step n x handed) (c.push_added-end.ensures.puts at_step n x handed)),
     )
 
 pub returns : goal.returns
 returns c =
-    let all : c.loop-s.s - (c.args.first + 1) ≡ c.args.self.window.offset + c.args.self.window.len - c.args.first = search rules in
+    let all : c.loop-s.s - (c.args.first + 1) ≡ c.args.self.now.window.offset + c.args.self.now.window.len - c.args.first = search rules in
     record { puts = (λ at_step n x handed. rw all at (c.loop-s.invariant.1 at_step n x handed)); upper_bound = rw all at c.loop-s.invariant.0 }
