@@ -1,14 +1,12 @@
 -- Laws of writing: what a number, one writer after another, and a record that was written apart leave.
 use mathlib.Core.Path.{◌≡◌, refl, sym, ap, ◌∙◌}
 use mathlib.Core.List.{List, [], ◌∷◌, ◌++◌, append_assoc, append-nil, flat_map}
-use Prim.Native.Nat.{ℕ, ◌+◌, ◌-◌, ◌≤◌, ◌<◌}
+use Prim.Native.Nat.{ℕ, ◌+◌, ◌≤◌, ◌<◌}
 use native.Mathlib.Decide.{dec_le}
-use native.Mathlib.Nat.{le_antisymm}
 use native.Mathlib.Omega.{arith}
 use borrow.Author.Tests.{le-leb, lt-leb}
-use lib.Dec.{leb}
-use lib.ListN.{length, set, take, drop, replicate, length-append, length-set}
-use lib.Seq.{take_at, take-take, length-take-le, drop-length}
+use lib.ListN.{length, set, take, drop, length-append, length-set}
+use lib.Seq.{take_at, take-take, length-take-le}
 use Rattle.memo.proofs.Lists.{flat_map_append}
 use Rattle.number.specs.Number.{encode}
 use Rattle.number.proofs.Laws.{encode_last}
@@ -67,14 +65,6 @@ append_nothing b = by (dec_le b.at (length b.log))
         let z : length {A = ℕ} [] ≡ 0 = refl in
         rw (content_in b.log b.at h, append_fits (length b.log) [] (take b.at b.log) (omega (arith, s, z)), append-nil)
     by (no h) = rw (content_over b.log b.at (omega arith), append_none)
-
--- The test of the room, by what is left.
-pub room_left : (l a n : ℕ) → n ≤ l → leb a (l - n) ≡ leb (a + n) l
-room_left l a n h = by (dec_le (a + n) l)
-  where
-    by : Dec (a + n ≤ l) → leb a (l - n) ≡ leb (a + n) l
-    by (yes k) = rw (le-leb (a + n) l k) (le-leb a (l - n) (omega arith))
-    by (no k) = rw (lt-leb (a + n) l (omega arith)) (lt-leb a (l - n) (omega arith))
 
 -- ---- one writer after another
 
@@ -136,11 +126,6 @@ full_before l m a e bs h past = rw (content_over l a h, append_none, content_ove
 -- Where the bytes before a place are known, so are those before a place ahead of it.
 pub same_front : (l m : List ℕ) (a k : ℕ) → k ≤ a → take a m ≡ take a l → take k m ≡ take k l
 same_front l m a k h e = sym (take-take k a m h) ∙ ap (take k) e ∙ take-take k a l h
-
-pub copied_front : (l m bs : List ℕ) (a n k : ℕ) → k ≤ a → a ≤ length l → take (a + n) m ≡ take a l ++ bs → take k m ≡ take k l
-copied_front l m bs a n k h inside is =
-    let s : length (take a l) ≡ a = length-take-le a l inside in
-    same_front l m a k h (sym (take-take a (a + n) m (omega arith)) ∙ ap (take a) is ∙ take_at (take a l) bs a s)
 
 -- One number, where there is room.
 pub put_one : (l m : List ℕ) (a e x : ℕ) → a + length (encode x) ≤ length l → e ≡ a + length (encode x) → length m ≡ length l
@@ -221,8 +206,3 @@ module _ (l : List ℕ) (a : ℕ) where
           let q : written (take a l) ≡ overflow = sym (content_in l a h) ∙ e in
           absurd (let z : ◌≡◌ {A = ℕ} 0 1 = cc in omega arith)
       by (no h) = omega arith
-
--- ---- the code of `clear`
-
-pub all_zeros : (s d : List ℕ) (i : ℕ) → i ≤ length d → length d ≤ i → s ≡ replicate i 0 ++ drop i d → s ≡ replicate (length d) 0
-all_zeros s d i a b p = p ∙ ap (λ (k : ℕ). replicate k 0 ++ drop k d) (le_antisymm a b) ∙ rw (drop-length, append-nil)

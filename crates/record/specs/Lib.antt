@@ -3,3 +3,4 @@ pub mod Steps
 pub mod Writing
 pub mod Truth
 pub mod Written
+pub mod Rooms

@@ -3,269 +3,187 @@
 
 ghost use Rattle.std.specs.Prelude.{◌≡◌, ℕ, ◌+◌, ◌-◌, ◌*◌, ◌≤◌, ◌<◌, length};
 ghost use mathlib.Core.List.{List, flat_map};
-ghost use Rattle.sizes.specs.Sizes.{width};
+ghost use Rattle.sizes.specs.Sizes.{width, left_window_column};
 ghost use Rattle.record.specs.Record.{derivation, numbers, token_numbers};
 ghost use Rattle.record.specs.Writing.{buffer, Puts};
 ghost use Rattle.totdb.specs.Nodes.{Node, node_at, range};
-ghost use Rattle.cert.specs.Definitions.{Key, key_records, window, window_if, window_only_if, window_pair};
+ghost use Rattle.cert.specs.Definitions.{Key, key_records, window, window_pair};
 ghost use Rattle.derivation.specs.Summands.{summand};
 ghost use Rattle.window.specs.Window.{added, added_room, Bounds, derivation_room, first_other, Handed, summand_room, tokens_of, WindowValue};
 
-use record::Sum;
+use record::{Sum, codes, kinds};
 
 // No derivation takes more bytes: kind and count, and a summand of nine numbers for each value, in five bytes each.
 const DERIVATION_ROOM: usize = 2890;
 
-// The first value of a window that is not `value`: the first summand that is not empty.
-fn first_other(offset: usize, value: usize) -> usize
-    requires { offset ≤ width }
-    ensures { (result ≡ first_other offset value) × (offset < result) × (result ≤ offset + 2) }
-{
-    if value == offset + 1 {
-        offset + 2
-    } else {
-        offset + 1
-    }
+// A window of a node: `row` has the first steps of the node's real definitions by their values, `outputs` its outputs from value
+// 1 on. The values of the window are those above `offset` up to offset + len.
+#[derive(Clone, Copy)]
+struct Window<'a> {
+    row: &'a [u32],
+    outputs: &'a [u32],
+    offset: usize,
+    len: usize,
+    ghost size: { left_window_column ≤ length row.now },
+    ghost values: { offset + len ≤ width },
+    ghost several: { 1 < len },
+    ghost inside: { offset + len ≤ length outputs.now },
 }
 
-// How many tokens a derivation of `value` has: a literal or five for each other value, and the additions between them.
-fn count_tokens(offset: usize, len: usize, value: usize, only_if: bool) -> u32
-    requires { (offset + len ≤ width) × (1 < len) × WindowValue offset len value }
-    ensures { (at_step : Key → ℕ → ℕ) (n : ℕ) (x : Node) → result ≡ length (tokens_of only_if at_step n x offset len value) }
-{
-    let below = value - offset - 1;
-    let above = offset + len - value;
-    if only_if {
-        return (5 * below + above + len - 2) as u32;
-    }
-    (below + 5 * above + len - 2) as u32
-}
-
-// The summand at s of a derivation of `value`.
-fn push_summand(
-    row: &[u32],
-    outputs: &[u32],
-    log: &mut [u8],
-    at: usize,
+// One of the two derivations of a window's value: its only-if, or its if.
+#[derive(Clone, Copy)]
+struct Derivation<'a> {
+    window: Window<'a>,
     value: usize,
-    s: usize,
     only_if: bool,
-) -> usize
-    requires bounds { (f m : ℕ) × Bounds row.now outputs.now f m × WindowValue f m value × WindowValue f m s }
-    requires room { at + summand_room ≤ length log.old }
-    ensures puts { (at_step : Key → ℕ → ℕ) (n : ℕ) (x : Node) (f m : ℕ)
-        → Handed row.now outputs.now at_step n x f m → WindowValue f m value → WindowValue f m s
-        → Puts (buffer log.old at) (token_numbers (summand only_if at_step n x value s)) (buffer log.new result) }
-    ensures upper_bound { result ≤ at + summand_room }
-{
-    let own = row[value];
-    let other = row[s];
-    let literal = outputs[s - 1];
-    if only_if {
-        let this = derivation::next_step(own);
-        return derivation::push_summand(
+    ghost in_window: { WindowValue window.offset window.len value },
+}
+
+impl<'a> Derivation<'a> {
+    ghost use Rattle.window.specs.Derivations.{IsHanded, tokens, summands};
+
+    // The first value of the window that is not the derivation's: the first summand that is not empty.
+    fn first_other(&self) -> usize
+        ensures { (result ≡ first_other self.now.window.offset self.now.value)
+            × (self.now.window.offset < result)
+            × (result ≤ self.now.window.offset + 2) }
+    {
+        let offset = self.window.offset;
+        if self.value == offset + 1 {
+            offset + 2
+        } else {
+            offset + 1
+        }
+    }
+
+    // How many tokens it has: a literal or five for each other value, and the additions between them.
+    fn count(&self) -> u32
+        ensures { (at_step : Key → ℕ → ℕ) (n : ℕ) (x : Node) → result ≡ length (tokens self.now at_step n x) }
+    {
+        let w = self.window;
+        let below = self.value - w.offset - 1;
+        let above = w.offset + w.len - self.value;
+        if self.only_if {
+            return (5 * below + above + w.len - 2) as u32;
+        }
+        (below + 5 * above + w.len - 2) as u32
+    }
+
+    // The summand at s.
+    fn push_summand(&self, log: &mut [u8], at: usize, s: usize) -> usize
+        requires in_window { WindowValue self.now.window.offset self.now.window.len s }
+        requires room { at + summand_room ≤ length log.old }
+        ensures puts { (at_step : Key → ℕ → ℕ) (n : ℕ) (x : Node) → IsHanded self.now.window at_step n x
+            → Puts (buffer log.old at) (token_numbers (summands self.now at_step n x s)) (buffer log.new result) }
+        ensures upper_bound { result ≤ at + summand_room }
+    {
+        let value = self.value;
+        let own = self.window.row[value];
+        let other = self.window.row[s];
+        let literal = self.window.outputs[s - 1];
+        let (this, that) = if self.only_if {
+            (derivation::next_step(own), other)
+        } else {
+            (own, derivation::next_step(other))
+        };
+        derivation::push_summand(
             log,
             at,
             value as u32,
             s as u32,
             this,
-            other,
+            that,
             literal,
-            true,
-        );
+            self.only_if,
+        )
     }
-    let that = derivation::next_step(other);
-    derivation::push_summand(log, at, value as u32, s as u32, own, that, literal, false)
-}
 
-// The summand at s and its addition to what stands before.
-fn push_added(
-    row: &[u32],
-    outputs: &[u32],
-    log: &mut [u8],
-    at: usize,
-    value: usize,
-    s: usize,
-    only_if: bool,
-) -> usize
-    requires bounds { (f m : ℕ) × Bounds row.now outputs.now f m × WindowValue f m value × WindowValue f m s }
-    requires room { at + added_room ≤ length log.old }
-    ensures puts { (at_step : Key → ℕ → ℕ) (n : ℕ) (x : Node) (f m : ℕ)
-        → Handed row.now outputs.now at_step n x f m → WindowValue f m value → WindowValue f m s
-        → Puts (buffer log.old at) (token_numbers (added (summand only_if at_step n x value) s)) (buffer log.new result) }
-    ensures upper_bound { result ≤ at + added_room }
-{
-    let end = push_summand(row, outputs, log, at, value, s, only_if);
-    if s == value {
-        return end;
+    // The summand at s and its addition to what stands before.
+    fn push_added(&self, log: &mut [u8], at: usize, s: usize) -> usize
+        requires in_window { WindowValue self.now.window.offset self.now.window.len s }
+        requires room { at + added_room ≤ length log.old }
+        ensures puts { (at_step : Key → ℕ → ℕ) (n : ℕ) (x : Node) → IsHanded self.now.window at_step n x
+            → Puts (buffer log.old at) (token_numbers (added (summands self.now at_step n x) s)) (buffer log.new result) }
+        ensures upper_bound { result ≤ at + added_room }
+    {
+        let end = self.push_summand(log, at, s);
+        if s == self.value {
+            return end;
+        }
+        record::push(log, end, codes::ADD)
     }
-    record::push(log, end, 2)
-}
 
-// The summands at the values of a window above `first`, each added to what stands before.
-fn push_rest(
-    row: &[u32],
-    outputs: &[u32],
-    log: &mut [u8],
-    at: usize,
-    offset: usize,
-    len: usize,
-    value: usize,
-    first: usize,
-    only_if: bool,
-) -> usize
-    requires bounds { Bounds row.now outputs.now offset len × WindowValue offset len value × WindowValue offset len first }
-    requires room { at + added_room * (offset + len - first) ≤ length log.old }
-    ensures puts { (at_step : Key → ℕ → ℕ) (n : ℕ) (x : Node)
-        → Handed row.now outputs.now at_step n x offset len
-        → Puts (buffer log.old at)
-        (token_numbers (flat_map (added (summand only_if at_step n x value)) (range (first + 1) (offset + len - first))))
-        (buffer log.new result) }
-    ensures upper_bound { result ≤ at + added_room * (offset + len - first) }
-{
-    let mut end = at;
-    for s in first + 1..offset + len + 1 {
-        end = push_added(row, outputs, log, end, value, s, only_if);
+    // The summands at the values of the window above `first`, each added to what stands before.
+    fn push_rest(&self, log: &mut [u8], at: usize, first: usize) -> usize
+        requires in_window { WindowValue self.now.window.offset self.now.window.len first }
+        requires room { at + added_room * (self.now.window.offset + self.now.window.len - first) ≤ length log.old }
+        ensures puts { (at_step : Key → ℕ → ℕ) (n : ℕ) (x : Node) → IsHanded self.now.window at_step n x
+            → Puts (buffer log.old at)
+            (token_numbers (flat_map (added (summands self.now at_step n x))
+            (range (first + 1) (self.now.window.offset + self.now.window.len - first))))
+            (buffer log.new result) }
+        ensures upper_bound { result ≤ at + added_room * (self.now.window.offset + self.now.window.len - first) }
+    {
+        let mut end = at;
+        for s in first + 1..self.window.offset + self.window.len + 1 {
+            end = self.push_added(log, end, s);
+        }
+        end
     }
-    end
-}
 
-// A derivation of `value`, where there is room: its only-if, or its if.
-fn push_derivation(
-    row: &[u32],
-    outputs: &[u32],
-    log: &mut [u8],
-    at: usize,
-    offset: usize,
-    len: usize,
-    value: usize,
-    only_if: bool,
-) -> usize
-    requires bounds { Bounds row.now outputs.now offset len × WindowValue offset len value }
-    requires room { at + derivation_room ≤ length log.old }
-    ensures puts { (at_step : Key → ℕ → ℕ) (n : ℕ) (x : Node)
-        → Handed row.now outputs.now at_step n x offset len
-        → Puts (buffer log.old at) (numbers (derivation (tokens_of only_if at_step n x offset len value))) (buffer log.new result) }
-    ensures upper_bound { result ≤ at + derivation_room }
-{
-    let first = first_other(offset, value);
-    let after_kind = record::push(log, at, 2);
-    let after_count = record::push(log, after_kind, count_tokens(offset, len, value, only_if));
-    let after_first = push_summand(row, outputs, log, after_count, value, first, only_if);
-    push_rest(
-        row,
-        outputs,
-        log,
-        after_first,
-        offset,
-        len,
-        value,
-        first,
-        only_if,
-    )
-}
-
-// A derivation near the end of the log.
-fn put_last_derivation(
-    row: &[u32],
-    outputs: &[u32],
-    log: &mut [u8],
-    at: usize,
-    offset: usize,
-    len: usize,
-    value: usize,
-    only_if: bool,
-) -> usize
-    requires { Bounds row.now outputs.now offset len × WindowValue offset len value }
-    ensures { (at_step : Key → ℕ → ℕ) (n : ℕ) (x : Node)
-        → Handed row.now outputs.now at_step n x offset len
-        → Puts (buffer log.old at) (numbers (derivation (tokens_of only_if at_step n x offset len value))) (buffer log.new result) }
-{
-    let mut apart = [0u8; DERIVATION_ROOM];
-    let n = push_derivation(row, outputs, &mut apart, 0, offset, len, value, only_if);
-    record::copy_out(log, at, &apart, n)
-}
-
-// A derivation of `value`, if it fits.
-fn put_derivation(
-    row: &[u32],
-    outputs: &[u32],
-    log: &mut [u8],
-    at: usize,
-    offset: usize,
-    len: usize,
-    value: usize,
-    only_if: bool,
-) -> usize
-    requires { Bounds row.now outputs.now offset len × WindowValue offset len value }
-    ensures { (at_step : Key → ℕ → ℕ) (n : ℕ) (x : Node)
-        → Handed row.now outputs.now at_step n x offset len
-        → Puts (buffer log.old at) (numbers (derivation (tokens_of only_if at_step n x offset len value))) (buffer log.new result) }
-{
-    if record::fits(log.len(), at, DERIVATION_ROOM) {
-        return push_derivation(row, outputs, log, at, offset, len, value, only_if);
+    // The derivation, where there is room.
+    fn push(&self, log: &mut [u8], at: usize) -> usize
+        requires { at + derivation_room ≤ length log.old }
+        ensures puts { (at_step : Key → ℕ → ℕ) (n : ℕ) (x : Node) → IsHanded self.now.window at_step n x
+            → Puts (buffer log.old at) (numbers (derivation (tokens self.now at_step n x))) (buffer log.new result) }
+        ensures upper_bound { result ≤ at + derivation_room }
+    {
+        let first = self.first_other();
+        let after_kind = record::push(log, at, kinds::DERIVATION);
+        let after_count = record::push(log, after_kind, self.count());
+        let after_first = self.push_summand(log, after_count, first);
+        self.push_rest(log, after_first, first)
     }
-    put_last_derivation(row, outputs, log, at, offset, len, value, only_if)
-}
 
-// The if of a window's value.
-fn put_window_if(
-    row: &[u32],
-    outputs: &[u32],
-    log: &mut [u8],
-    at: usize,
-    offset: usize,
-    len: usize,
-    value: usize,
-) -> usize
-    requires { Bounds row.now outputs.now offset len × WindowValue offset len value }
-    ensures { (at_step : Key → ℕ → ℕ) (n : ℕ) (x : Node)
-        → Handed row.now outputs.now at_step n x offset len
-        → Puts (buffer log.old at) (numbers (window_if at_step n x offset len value)) (buffer log.new result) }
-{
-    put_derivation(row, outputs, log, at, offset, len, value, false)
-}
-
-// The only-if of a window's value.
-fn put_window_only_if(
-    row: &[u32],
-    outputs: &[u32],
-    log: &mut [u8],
-    at: usize,
-    offset: usize,
-    len: usize,
-    value: usize,
-) -> usize
-    requires { Bounds row.now outputs.now offset len × WindowValue offset len value }
-    ensures { (at_step : Key → ℕ → ℕ) (n : ℕ) (x : Node)
-        → Handed row.now outputs.now at_step n x offset len
-        → Puts (buffer log.old at) (numbers (window_only_if at_step n x offset len value)) (buffer log.new result) }
-{
-    put_derivation(row, outputs, log, at, offset, len, value, true)
-}
-
-// The derivations of all values of a window.
-fn put_values(
-    row: &[u32],
-    outputs: &[u32],
-    log: &mut [u8],
-    at: usize,
-    offset: usize,
-    len: usize,
-) -> usize
-    requires { Bounds row.now outputs.now offset len }
-    ensures { (at_step : Key → ℕ → ℕ) (n : ℕ) (x : Node)
-        → Handed row.now outputs.now at_step n x offset len
-        → Puts (buffer log.old at)
-        (flat_map numbers (flat_map (window_pair at_step n x offset len) (range (offset + 1) len)))
-        (buffer log.new result) }
-{
-    let mut end = at;
-    for v in offset + 1..offset + len + 1 {
-        let after_if = put_window_if(row, outputs, log, end, offset, len, v);
-        end = put_window_only_if(row, outputs, log, after_if, offset, len, v);
+    // The derivation, if it fits.
+    fn put(&self, log: &mut [u8], at: usize) -> usize
+        ensures { (at_step : Key → ℕ → ℕ) (n : ℕ) (x : Node) → IsHanded self.now.window at_step n x
+            → Puts (buffer log.old at) (numbers (derivation (tokens self.now at_step n x))) (buffer log.new result) }
+    {
+        record::put_record::<DERIVATION_ROOM, _, _>(log, at, self, Derivation::push)
     }
-    end
+}
+
+impl<'a> Window<'a> {
+    ghost use Rattle.window.specs.Derivations.{IsHanded};
+
+    // The derivations of all its values.
+    fn put_values(&self, log: &mut [u8], at: usize) -> usize
+        ensures { (at_step : Key → ℕ → ℕ) (n : ℕ) (x : Node) → IsHanded self.now at_step n x
+            → Puts (buffer log.old at)
+            (flat_map numbers (flat_map (window_pair at_step n x self.now.offset self.now.len)
+            (range (self.now.offset + 1) self.now.len)))
+            (buffer log.new result) }
+    {
+        let offset = self.offset;
+        let len = self.len;
+        let mut end = at;
+        for v in offset + 1..offset + len + 1 {
+            let if_of = Derivation {
+                window: *self,
+                value: v,
+                only_if: false,
+            };
+            let only_if_of = Derivation {
+                window: *self,
+                value: v,
+                only_if: true,
+            };
+            let after_if = if_of.put(log, end);
+            end = only_if_of.put(log, after_if);
+        }
+        end
+    }
 }
 
 // The records of a window's key.
@@ -282,12 +200,13 @@ pub fn put_window(
         → Handed row.now outputs.now at_step n (node_at t n) offset len
         → Puts (buffer log.old at) (flat_map numbers (key_records at_step t (window n offset len))) (buffer log.new result) }
 {
-    let after_values = put_values(row, outputs, log, at, offset, len);
-    let end = offset + len;
-    let bare = Sum {
-        witness: 0,
-        own: 0,
-        literal: 0,
+    let w = Window {
+        row,
+        outputs,
+        offset,
+        len,
     };
-    record::put_sum(log, after_values, &outputs[offset..end], true, bare)
+    let after_values = w.put_values(log, at);
+    let own = &outputs[offset..offset + len];
+    record::put_sum(log, after_values, own, true, Sum::default())
 }

@@ -1,7 +1,6 @@
 -- `derivation::put_clause` meets its contract.
-use mathlib.Core.Path.{sym, ◌∙◌}
-use borrow.Author.Tests.{leb-true}
+use Rattle.std.proofs.Common.{rules}
 use Rattle.derivation.proofs.put_clause.Goals as goal
 
-pub push_both-requires : goal.push_both-requires
-push_both-requires c = leb-true _ _ (sym c.fits.ensures ∙ c.if-fits.true)
+pub returns : goal.returns
+returns c = c.put_record.ensures _ (λ l a e m room post. search rules)

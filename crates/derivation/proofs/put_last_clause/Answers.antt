@@ -1,8 +1,0 @@
--- `derivation::put_last_clause` meets its contract.
-use Rattle.std.proofs.Common.{arith}
-use Rattle.record.proofs.Writing.{from_apart}
-use Rattle.derivation.proofs.put_last_clause.Goals as goal
-
-pub returns : goal.returns
-returns c =
-    from_apart c.push_both-n.ensures.puts (omega (arith, c.push_both-n.ensures.upper_bound)) (c.copy_out.ensures.onward, c.copy_out.ensures.appends)

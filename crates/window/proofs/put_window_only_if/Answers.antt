@@ -1,9 +1,0 @@
--- `window::put_window_only_if` meets its contract: it is the derivation in one direction.
-use Rattle.cert.specs.Definitions.{window_only_if}
-use Rattle.derivation.specs.Summands.{summand}
-use Rattle.window.specs.Window.{tokens_of}
-use Rattle.window.proofs.put_window_only_if.Goals as goal
-
-pub returns : goal.returns
-unfolding window_only_if summand tokens_of
-returns c = c.put_derivation.ensures
