@@ -6,7 +6,6 @@ use mathlib.Core.List.{List, [], ◌∷◌}
 use Prim.Native.Nat.{ℕ, zero, suc, ◌+◌, ◌≤◌, ◌<◌}
 use native.Mathlib.Decide.{dec_le}
 use native.Mathlib.Omega.{arith}
-use borrow.Author.Tests.{leb-true, leb-false, ltb-true, ltb-false}
 use lib.ListN.{length, get_or}
 use Rattle.sizes.specs.Sizes.{width, store_at}
 use Rattle.pb.specs.Sum.{neg}
@@ -32,7 +31,7 @@ use Rattle.define.proofs.Slots.{real_named}
 use Rattle.define.proofs.SideLooks.{plain_value}
 use Rattle.clauses.specs.Firsts.{real_step, window_step, FirstsOf}
 use Rattle.clauses.specs.declared.Split.{Split}
-use Rattle.clauses.specs.Joins.{JoinIn, ClauseIn, SideReach, SideRoom, ClauseReach, ClauseValue, clause_part, has_part}
+use Rattle.clauses.specs.Joins.{JoinIn, ClauseIn, SideReach, SideRoom, ClauseReach, clause_part}
 use Rattle.clauses.proofs.Firsts.{real_read, window_read}
 
 -- ---- sides
@@ -139,12 +138,6 @@ unfolding neg_part
 neg_one t s zero h = absurd (omega arith)
 neg_one t s (suc a) h = refl
 
--- A literal that is there is at a value from 1 up to the side's length.
-pub part_there : {q : Bool} {p i : ℕ} → ClauseValue q p i → has_part q p i ≡ true → (1 ≤ i) × (i ≤ p)
-unfolding has_part
-part_there {q = true} k h = (k.above refl, leb-true _ _ h)
-part_there {q = false} k h = (ltb-true 0 _ h, k.below refl)
-
 pub keyed_low : {s : Shown} {a : ℕ} → SideReach s a → plain_or s.side.offset s.side.limit true false ≡ true → keyed s.side a ≤ width + 1
 keyed_low {s} {a} r p = omega (arith, plain_keyed s.side p a, r.short, r.value)
 
@@ -158,7 +151,7 @@ keyed_in {s} {a} r = by (dec_le a 0)
     by (no p) = let e = keyed_above s.side a (omega arith) in (λ h. omega arith, omega (arith, r.short, r.value))
 
 module _ {t : List Node} (b : Bounded t) {s : Shown} {a : ℕ} (i : SideIn t s a) where
-  only_absent : s.len < a → [] ≡ clause_part true t s.side a
+  pub only_absent : s.len < a → [] ≡ clause_part true t s.side a
   unfolding clause_part
   only_absent h = pos_none t s.side a (omega (arith, i.shown.length))
 
@@ -166,14 +159,9 @@ module _ {t : List Node} (b : Bounded t) {s : Shown} {a : ℕ} (i : SideIn t s a
   unfolding clause_part
   only_literal h g = rw (side_literal b a i.shown h g) (pos_one t s.side a (omega (arith, i.shown.length)))
 
-  if_absent : a ≡ 0 → [] ≡ clause_part false t s.side a
+  pub if_absent : a ≡ 0 → [] ≡ clause_part false t s.side a
   unfolding clause_part neg_part
   if_absent e = rw e
-
-  pub part_absent : (q : Bool) → has_part q s.len a ≡ false → [] ≡ clause_part q t s.side a
-  unfolding has_part
-  part_absent true h = only_absent (leb-false a s.len h)
-  part_absent false h = if_absent (omega (arith, ltb-false 0 a h))
 
   pub if_literal : 1 ≤ a → a ≤ s.len → neg (from_first s.first (s.side.offset + a)) ∷ [] ≡ clause_part false t s.side a
   unfolding clause_part

@@ -1,5 +1,5 @@
 -- A join as the code has it, by value, and a clause of it.
-use Rattle.std.specs.Prelude.{◌≡◌, Bool, true, false, not, List, [], ◌∷◌, ◌++◌, ℕ, ◌+◌, ◌^◌, ◌≤◌, ◌<◌, leb, ltb, length}
+use Rattle.std.specs.Prelude.{◌≡◌, Bool, true, false, not, List, [], ◌∷◌, ◌++◌, ℕ, ◌+◌, ◌^◌, ◌≤◌, ◌<◌, length}
 use Rattle.sizes.specs.Sizes.{most_nodes, width, store_row, store_at}
 use Rattle.pb.specs.Sum.{neg}
 use Rattle.totdb.specs.Nodes.{Node, node_at, len, output}
@@ -29,11 +29,6 @@ unfoldable pub last_literal : Bool → ℕ → ℕ
 unfolding neg
 last_literal true o = neg o
 last_literal false o = o
-
--- Whether a clause has a literal of a side of length p at the value i.
-unfoldable pub has_part : Bool → ℕ → ℕ → Bool
-has_part true p i = leb i p
-has_part false p i = ltb 0 i
 
 -- The clause of a value with a value of the left side and one of the right.
 unfoldable pub clause_of : List Node → Join → Split → Clause

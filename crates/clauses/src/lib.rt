@@ -15,7 +15,7 @@ ghost use Rattle.define.specs.Store.{direction, clause_counted};
 ghost use Rattle.define.specs.Represents.{memory, Represented, Simulates};
 ghost use Rattle.define.specs.Lookups.{SideIn, RealOf};
 ghost use Rattle.clauses.specs.Firsts.{real_step, window_step, SideRead, has_first, side_stored, sides_stored};
-ghost use Rattle.clauses.specs.Joins.{JoinIn, ClauseIn, SideReach, SideRoom, ClauseValue, clause_of, clause_part, has_part, last_literal};
+ghost use Rattle.clauses.specs.Joins.{JoinIn, ClauseIn, SideReach, SideRoom, ClauseValue, clause_of, clause_part, last_literal};
 
 use derivation::{Clause, Operands, SemDefinition};
 use rows::{Join, Shown};
@@ -98,15 +98,7 @@ fn side_definition(store: &[u32], s: Shown, a: usize, only_if: bool) -> SemDefin
     window_definition(store, s.window, side.offset, side.key(a), only_if)
 }
 
-// Whether a clause has a literal of a side at its a-th value: in an if clause above 0, in an only-if clause up to the side's
-// length.
-pub fn has_part(s: Shown, a: usize, only_if: bool) -> bool
-    ensures { result ≡ has_part only_if s.len a }
-{
-    if only_if { a <= s.len } else { 0 < a }
-}
-
-// This literal, in an if clause negated.
+// The literal of a clause at the a-th value of a side, in an if clause negated.
 pub fn part_literal(s: Shown, a: usize, only_if: bool) -> u32
     requires { SideReach s a × (1 ≤ a) × (a ≤ s.len) }
     ensures { (t : List Node) → Bounded t → SideIn t s a → result ∷ [] ≡ clause_part only_if t s.side a }
@@ -116,17 +108,23 @@ pub fn part_literal(s: Shown, a: usize, only_if: bool) -> u32
     if only_if { literal } else { pb::neg(literal) }
 }
 
-// The part of a clause at the a-th value of a side.
+// The part of a clause at the a-th value of a side: absent in an if clause at 0, in an only-if clause above the side's length.
 fn part(s: Shown, a: usize, only_if: bool) -> Option<u32>
     requires side_reach { SideReach s a × ClauseValue only_if s.len a }
     requires bounded { (t : List Node) × Bounded t × SideIn t s a }
     ensures { (t : List Node) → Bounded t → SideIn t s a
         → Rattle.derivation.specs.Operands.part result ≡ clause_part only_if t s.side a }
 {
-    if !has_part(s, a, only_if) {
+    if only_if {
+        if s.len < a {
+            return None;
+        }
+        return Some(part_literal(s, a, true));
+    }
+    if a == 0 {
         return None;
     }
-    Some(part_literal(s, a, only_if))
+    Some(part_literal(s, a, false))
 }
 
 // The last literal of a clause: the output, in an only-if clause negated.

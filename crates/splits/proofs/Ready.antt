@@ -29,8 +29,8 @@ use Rattle.define.proofs.SideLooks.{plain_value}
 use Rattle.define.proofs.Slots.{real_named}
 use Rattle.clauses.specs.Firsts.{real_step, FirstsOf, has_first, side_stored, sides_stored}
 use Rattle.clauses.specs.declared.Split.{Split}
-use Rattle.clauses.specs.Joins.{ClauseValue, has_part}
-use Rattle.clauses.proofs.Joins.{plain_operand, part_there}
+use Rattle.clauses.specs.Joins.{ClauseValue}
+use Rattle.clauses.proofs.Joins.{plain_operand}
 use Rattle.clauses.proofs.Stored.{long_stored, plain_first}
 use Rattle.clauses.proofs.Written.{clause_records, clause_puts}
 use Rattle.splits.specs.Ready.{is_long, are_long, has_both, is_ready, BothParts}
@@ -71,11 +71,27 @@ long_sides x h = and_true (is_long x.left) _ h
 pub both_parts : {x : Join} {k : Split} → are_long x ≡ true → has_both x k ≡ true → ClauseValue k.only_if x.left.len k.left
     → ClauseValue k.only_if x.right.len k.right → BothParts x k
 unfolding has_both
-both_parts {x} {k} l h p q =
-    let both = and_true (has_part k.only_if x.left.len k.left) _ h in
-    let left = part_there p both.0 in
-    let right = part_there q both.1 in
-    record { long = l; left_above = left.0; left_within = left.1; right_above = right.0; right_within = right.1 }
+both_parts {x} {k} l h p q = by k.only_if refl
+  where
+    by : (b : Bool) → k.only_if ≡ b → BothParts x k
+    by true e =
+        let both = and_true (leb k.left x.left.len) _ (rw e at h) in
+        record {
+          long = l;
+          left_above = p.above e;
+          left_within = leb-true k.left x.left.len both.0;
+          right_above = q.above e;
+          right_within = leb-true k.right x.right.len both.1;
+        }
+    by false e =
+        let both = and_true (ltb 0 k.left) _ (rw e at h) in
+        record {
+          long = l;
+          left_above = ltb-true 0 k.left both.0;
+          left_within = p.below e;
+          right_above = ltb-true 0 k.right both.1;
+          right_within = q.below e;
+        }
 
 pub record Readied (store : List ℕ) (n at : ℕ) (x : Join) (k : Split) (long : Bool) : Type 0 where
   pub long_is : long ≡ true

@@ -1,5 +1,5 @@
 -- A clause with both parts, over plain sides of two values or more, whose definitions are stored.
-use Rattle.std.specs.Prelude.{◌≡◌, Bool, true, false, ◌&&◌, List, ℕ, ◌+◌, ◌≤◌, leb, ltb}
+use Rattle.std.specs.Prelude.{◌≡◌, Bool, true, false, cond, ◌&&◌, List, ℕ, ◌+◌, ◌≤◌, leb, ltb}
 use Rattle.sizes.specs.Sizes.{store_at}
 use Rattle.totdb.specs.Nodes.{plain_or}
 use Rattle.derivation.specs.Operands.{clause_room}
@@ -7,7 +7,6 @@ use Rattle.rows.specs.declared.Join.{Join}
 use Rattle.rows.specs.declared.Shown.{Shown}
 use Rattle.clauses.specs.declared.Split.{Split}
 use Rattle.clauses.specs.Firsts.{has_first}
-use Rattle.clauses.specs.Joins.{has_part}
 
 -- A side is plain and has two values or more.
 unfoldable pub is_long : Shown → Bool
@@ -18,10 +17,9 @@ unfoldable pub are_long : Join → Bool
 unfolding is_long
 are_long x = is_long x.left && is_long x.right
 
--- The clause has both parts.
+-- The clause has both parts: in an only-if clause neither value is above its side's length, in an if clause neither is 0.
 unfoldable pub has_both : Join → Split → Bool
-unfolding has_part
-has_both x k = has_part k.only_if x.left.len k.left && has_part k.only_if x.right.len k.right
+has_both x k = cond k.only_if (leb k.left x.left.len && leb k.right x.right.len) (ltb 0 k.left && ltb 0 k.right)
 
 pub record BothParts (x : Join) (k : Split) : Type 0 where
   pub long : are_long x ≡ true

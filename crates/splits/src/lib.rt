@@ -55,7 +55,12 @@ fn are_long(x: Join) -> bool
 fn has_both(x: Join, k: Split) -> bool
     ensures { result ≡ has_both x k }
 {
-    clauses::has_part(x.left, k.left, k.only_if) && clauses::has_part(x.right, k.right, k.only_if)
+    // One test of the direction, for both sides: a test by side costs 31k more of the 810k instructions of balanced-41.
+    if k.only_if {
+        k.left <= x.left.len && k.right <= x.right.len
+    } else {
+        0 < k.left && 0 < k.right
+    }
 }
 
 // The first step at a value of a side's node, 0 where it is missing. Of a plain side it is the value's own.

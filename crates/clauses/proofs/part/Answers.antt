@@ -1,17 +1,26 @@
 -- `clauses::part` meets its contract: the literal is absent, or there.
-use mathlib.Core.Path.{sym, ◌∙◌}
-use Rattle.clauses.proofs.Joins.{part_absent, part_there}
+use Rattle.std.proofs.Common.{arith}
+use Rattle.clauses.proofs.Joins.{only_absent, if_absent}
 use Rattle.clauses.proofs.part.Goals as goal
 
-pub returns-then-not-has_part : goal.returns-then-not-has_part
+pub returns-then-s-a : goal.returns-then-s-a
 unfolding Rattle.derivation.specs.Operands.part
-returns-then-not-has_part c = λ t b i. part_absent b i c.args.only_if (sym c.has_part.ensures ∙ c.if-not-has_part.true)
+returns-then-s-a c = λ t b i. rw c.if-only_if.true (only_absent b i (omega arith))
 
 pub part_literal-requires : goal.part_literal-requires
-part_literal-requires c =
-    let p = part_there c.requires.side_reach.1 (sym c.has_part.ensures ∙ c.if-not-has_part.false) in
-    (c.requires.side_reach.0, p.0, p.1)
+part_literal-requires c = (c.requires.side_reach.0, c.requires.side_reach.1.above c.if-only_if.true, omega arith)
+
+pub returns-then-only_if : goal.returns-then-only_if
+unfolding Rattle.derivation.specs.Operands.part
+returns-then-only_if c = λ t b i. rw c.if-only_if.true (c.part_literal.ensures t b i)
+
+pub returns-then-a-eq0 : goal.returns-then-a-eq0
+unfolding Rattle.derivation.specs.Operands.part
+returns-then-a-eq0 c = λ t b i. rw c.if-only_if.false (if_absent b i (omega arith))
+
+pub part_literal-requires-2 : goal.part_literal-requires-2
+part_literal-requires-2 c = (c.requires.side_reach.0, omega arith, c.requires.side_reach.1.below c.if-only_if.false)
 
 pub returns : goal.returns
 unfolding Rattle.derivation.specs.Operands.part
-returns c = λ t b i. c.part_literal.ensures t b i
+returns c = λ t b i. rw c.if-only_if.false (c.part_literal-2.ensures t b i)

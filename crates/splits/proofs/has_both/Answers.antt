@@ -1,13 +1,20 @@
--- `splits::has_both` meets its contract.
-use mathlib.Core.Path.{sym, ◌∙◌}
+-- `splits::has_both` meets its contract: by the direction.
+use borrow.Author.Tests.{lt-leb, le-leb, lt-ltb, le-ltb}
 use Rattle.splits.specs.Ready.{has_both}
-use Rattle.splits.proofs.Ready.{and_then, and_else}
 use Rattle.splits.proofs.has_both.Goals as goal
 
-pub returns-then-has_part : goal.returns-then-has_part
+pub returns-then-k-x : goal.returns-then-k-x
 unfolding has_both
-returns-then-has_part c = and_then (sym c.has_part.ensures ∙ c.if-has_part.true) c.has_part-then-has_part.ensures
+returns-then-k-x c = rw (c.if-k.true, le-leb c.args.k.left c.args.x.left.len c.if-k-x.true)
 
-pub returns-else-has_part : goal.returns-else-has_part
+pub returns-else-k-x : goal.returns-else-k-x
 unfolding has_both
-returns-else-has_part c = and_else _ (sym c.has_part.ensures ∙ c.if-has_part.false) c.has_part.ensures
+returns-else-k-x c = rw (c.if-k.true, lt-leb c.args.k.left c.args.x.left.len c.if-k-x.false)
+
+pub returns-then-k-gt0 : goal.returns-then-k-gt0
+unfolding has_both
+returns-then-k-gt0 c = rw (c.if-k.false, lt-ltb 0 c.args.k.left c.if-k-gt0.true)
+
+pub returns-else-k-gt0 : goal.returns-else-k-gt0
+unfolding has_both
+returns-else-k-gt0 c = rw (c.if-k.false, le-ltb 0 c.args.k.left c.if-k-gt0.false)
