@@ -10,11 +10,10 @@ use native.Mathlib.Omega.{arith}
 use borrow.Author.Tests.{eq-eqb, ne_eqb}
 use lib.ListN.{length, take, drop, length-drop}
 use lib.Seq.{get_or-drop, split_at, length-take-le}
+use Rattle.std.specs.Prelude.{Option, Some, None, is_some}
 use Rattle.totdb.specs.Nodes.{Node, leaf, join, node_at}
-use Rattle.totdb.specs.Leaves.{leaves_from, leaf_table, node_found, looked_at, is_found, look_further, lookup_in, lookup_leaf}
-use Rattle.totdb.specs.declared.LeafLookup.{LeafLookup}
-use Rattle.totdb.specs.declared.LeafLookup.TheVariants.{Found, Missing}
-use Rattle.totdb.proofs.Leaves.{known_found}
+use Rattle.totdb.specs.Leaves.{leaves_from, leaf_table, found_at, not_found, node_found, looked_at, look_further, lookup_in, lookup_leaf}
+use Rattle.totdb.proofs.Leaves.{entry, known_found}
 use Rattle.cert.specs.State.{State, Head}
 use Rattle.player.specs.Player.{act, make}
 use Rattle.player.specs.Verdict.{own_literal, leaf_literals, Reached}
@@ -26,33 +25,33 @@ use Rattle.demands.specs.Leaves.{FromTheNewest}
 -- ---- any table
 
 -- The nodes are numbered from n up.
-missing_from : (n : ℕ) (t : List Node) (l : ℕ) → (Memᴰ l (leaf_literals t) → ⊥) → lookup_in (leaves_from n t) l ≡ Missing (length (leaf_literals t))
+missing_from : (n : ℕ) (t : List Node) (l : ℕ) → (Memᴰ l (leaf_literals t) → ⊥) → lookup_in (leaves_from n t) l ≡ not_found (length (leaf_literals t))
 unfolding leaves_from lookup_in look_further leaf_literals own_literal flat_map
 missing_from n [] l absent = refl
 missing_from n (leaf m ∷ t) l absent =
-    rw (missing_from (suc n) t l (λ m. absent (Memᴰ.tail m)), ne_eqb l m (λ e. absent (Memᴰ.head e)), look_further)
+    ap (look_further l (entry m n)) (missing_from (suc n) t l (λ m. absent (Memᴰ.tail m))) ∙ rw (ne_eqb l m (λ e. absent (Memᴰ.head e)), look_further)
 missing_from n (join ls o a b ∷ t) l absent = missing_from (suc n) t l absent
 
 found_from : (n : ℕ) (before after : List Node) (l : ℕ) → (Memᴰ l (leaf_literals after) → ⊥)
-    → lookup_in (leaves_from n (before ++ (leaf l ∷ after))) l ≡ Found (n + length before) (1 + length (leaf_literals after))
+    → lookup_in (leaves_from n (before ++ (leaf l ∷ after))) l ≡ found_at (n + length before) (1 + length (leaf_literals after))
 unfolding leaves_from lookup_in look_further
 found_from n [] after l absent =
     let e : n + 0 ≡ n = omega arith in
     let f : 1 + length (leaf_literals after) ≡ suc (length (leaf_literals after)) = omega arith in
-    rw (e, f, missing_from (suc n) after l absent, eq-eqb l l refl, look_further)
+    rw (e, f) (ap (look_further l (entry l n)) (missing_from (suc n) after l absent) ∙ rw (eq-eqb l l refl, look_further))
 found_from n (leaf m ∷ before) after l absent =
     let e : n + suc (length before) ≡ suc n + length before = omega arith in
-    rw (e, found_from (suc n) before after l absent)
+    rw e (ap (look_further l (entry m n)) (found_from (suc n) before after l absent))
 found_from n (join ls o a b ∷ before) after l absent =
     let e : n + suc (length before) ≡ suc n + length before = omega arith in
     rw (e, found_from (suc n) before after l absent)
 
 found_is : (before after : List Node) (l : ℕ) → (Memᴰ l (leaf_literals after) → ⊥)
-    → lookup_leaf (before ++ (leaf l ∷ after)) l ≡ Found (length before) (1 + length (leaf_literals after))
+    → lookup_leaf (before ++ (leaf l ∷ after)) l ≡ found_at (length before) (1 + length (leaf_literals after))
 unfolding lookup_leaf leaf_table
 found_is before after l absent = let e : 0 + length before ≡ length before = omega arith in rw e at (found_from 0 before after l absent)
 
-missing_is : (t : List Node) (l : ℕ) → (Memᴰ l (leaf_literals t) → ⊥) → lookup_leaf t l ≡ Missing (length (leaf_literals t))
+missing_is : (t : List Node) (l : ℕ) → (Memᴰ l (leaf_literals t) → ⊥) → lookup_leaf t l ≡ not_found (length (leaf_literals t))
 unfolding lookup_leaf leaf_table
 missing_is t l absent = missing_from 0 t l absent
 
@@ -79,23 +78,24 @@ module _ {bs : List ℕ} {capacity : ℕ} {h : Head} {cs : List Command} {s : St
       omega arith
 
   leaf_found : (l n : ℕ) → n < length s.nodes → node_at s.nodes n ≡ leaf l
-      → lookup_leaf s.nodes l ≡ Found n (1 + length (leaf_literals (drop (suc n) s.nodes)))
+      → lookup_leaf s.nodes l ≡ found_at n (1 + length (leaf_literals (drop (suc n) s.nodes)))
   unfolding node_at
   leaf_found l n i e =
       ap (λ (t : List Node). lookup_leaf t l)
       (split_at s.nodes n (leaf 0) i ∙ ap (λ (x : Node). take n s.nodes ++ (x ∷ drop (suc n) s.nodes)) e)
       ∙ found_is (take n s.nodes) (drop (suc n) s.nodes) l (absent_after l n i e)
-      ∙ ap (λ (k : ℕ). Found k (1 + length (leaf_literals (drop (suc n) s.nodes)))) (length-take-le n s.nodes (omega arith))
+      ∙ ap (λ (k : ℕ). found_at k (1 + length (leaf_literals (drop (suc n) s.nodes)))) (length-take-le n s.nodes (omega arith))
 
 -- ---- the command
 
 leaf_command : (l : ℕ) (s : State) → act (Command.Leaf l) s ≡ elim (node_found (lookup_leaf s.nodes l)) [ some n ↦ s | none ↦ make (leaf l) 0 s ]
-unfolding act is_found node_found
-leaf_command l s = rw (known_found s.nodes l, act) (by (lookup_leaf s.nodes l))
+unfolding act node_found
+leaf_command l s = rw (known_found s.nodes l, act) (let r = lookup_leaf s.nodes l in by r.looked_at r.node)
   where
-    by : (r : LeafLookup) → ◌≡◌ {A = State} (elim (is_found r) as (λ _. State) [ true ↦ s | false ↦ make (leaf l) 0 s ]) (elim (node_found r) as (λ _. State) [ some n ↦ s | none ↦ make (leaf l) 0 s ])
-    by (Found n k) = refl
-    by (Missing k) = refl
+    by : (k : ℕ) (x : Option ℕ) → ◌≡◌ {A = State} (elim (is_some x) as (λ _. State) [ true ↦ s | false ↦ make (leaf l) 0 s ])
+        (elim (node_found (record { node = x; looked_at = k })) as (λ _. State) [ some n ↦ s | none ↦ make (leaf l) 0 s ])
+    by k (Some n) = refl
+    by k None = refl
 
 pub from_the_newest : FromTheNewest
 unfolding node_found looked_at

@@ -1,16 +1,11 @@
 -- The table of the leaves: written, and looked up.
-use mathlib.Core.Path.{◌≡◌, subst, sym, ap, ◌∙◌}
-use mathlib.Core.Bool.{true, false, true≢false}
+use mathlib.Core.Path.{◌≡◌, sym, ap, ◌∙◌}
 use mathlib.Core.List.{List, [], ◌∷◌, ◌++◌, map, map-append}
-use Prim.Native.Nat.{ℕ, zero, suc, ◌+◌, ◌-◌, ◌≤◌, ◌<◌}
+use Prim.Native.Nat.{ℕ, suc, ◌+◌, ◌-◌, ◌≤◌, ◌<◌}
 use native.Mathlib.Omega.{arith}
 use borrow.Author.Tests.{eq-eqb, ne_eqb}
-use lib.Dec.{T, eqb, eqb→eq}
-use lib.ListN.{length, get_or, set, take, length-set}
-use Rattle.std.specs.Prelude.{reverse}
-use Rattle.std.specs.List.{AllWithin, HoldsAt}
-use Rattle.std.proofs.lemmas.List.{places, length-reverse}
-use lib.Seq.{length-take-le, get_or-set_same, get_or-set_other}
+use lib.ListN.{length, get_or, set, length-set}
+use lib.Seq.{get_or-set_same, get_or-set_other}
 use Rattle.sizes.specs.Sizes.{most_leaves, leaf_nodes, nodes_start}
 use Rattle.memo.proofs.Lists.{map_agree}
 use Rattle.totdb.specs.Nodes.{Node, range, leaf_count}
@@ -61,10 +56,10 @@ module _ (ns : List ℕ) (count l : ℕ) where
   lookup_from i = lookup_in (map (read_leaf ns) (range i (count - i))) l
 
   -- None of them has the literal.
-  abbrev NoneFrom : ℕ → Type 0
+  abbrev pub NoneFrom : ℕ → Type 0
   NoneFrom i = lookup_from i ≡ not_found (count - i)
 
-  none_newer : NoneFrom count
+  pub none_newer : NoneFrom count
   unfolding range lookup_in
   none_newer = let e : count - count ≡ 0 = omega arith in rw e
 
@@ -77,7 +72,7 @@ module _ (ns : List ℕ) (count l : ℕ) where
         let f : suc (i - 1) ≡ i = omega arith in
         rw (e, f) (ap (look_further l (read_leaf ns (i - 1))) none)
 
-    not_there : (get_or ns (i - 1) 0 ≡ l → ⊥) → NoneFrom (i - 1)
+    pub not_there : (get_or ns (i - 1) 0 ≡ l → ⊥) → NoneFrom (i - 1)
     unfolding look_further
     not_there ne =
         let e : count - (i - 1) ≡ suc (count - i) = omega arith in
@@ -89,66 +84,24 @@ module _ (ns : List ℕ) (count l : ℕ) where
         let e : count - (i - 1) ≡ suc (count - i) = omega arith in
         next ∙ rw (e, eq-eqb l (get_or ns (i - 1) 0) (sym is), look_further)
 
-  -- The literals from the newest on, and the test of the code.
-  abbrev newest : List ℕ
-  newest = reverse (take count ns)
-
-  abbrev pub Has : ℕ → Type 0
-  Has x = true ≡ eqb x l
-
-  abbrev pub HasNot : ℕ → Type 0
-  HasNot x = false ≡ eqb x l
-
-  module _ (room : count ≤ length ns) where
-    newest_length : length newest ≡ count
-    newest_length = length-reverse (take count ns) ∙ length-take-le count ns room
-
-    newest_at : (j : ℕ) → j < count → get_or newest j 0 ≡ get_or ns (count - 1 - j) 0
-    newest_at j h = grind (arith, places)
-
-    has : (j : ℕ) → j < count → HoldsAt Has newest j → get_or ns (count - 1 - j) 0 ≡ l
-    has j h is = eqb→eq _ _ (subst T (rw (newest_at j h) at (is 0)) tt)
-
-    -- None of the newest k has the literal.
-    none_from : (k : ℕ) → k ≤ count → AllWithin HasNot newest 0 k → NoneFrom (count - k)
-    none_from zero h none = let e : count - 0 ≡ count = omega arith in rw e none_newer
-    none_from (suc k) h none =
-        let e : count - k - 1 ≡ count - suc k = omega arith in
-        let f : count - 1 - k ≡ count - k - 1 = omega arith in
-        let other : false ≡ eqb (get_or ns (count - k - 1) 0) l = rw f at (rw (newest_at k (omega arith)) at (none k 0 (omega arith) (omega arith))) in
-        rw e at (not_there (count - k) (omega arith) (omega arith) (none_from k (omega arith) (λ j d p q. none j d p (omega arith)))
-        (λ is. true≢false (sym (other ∙ eq-eqb _ _ is))))
-
   -- All of them are the leaves of the table.
   module _ (t : List Node) (tb : Table ns t) (counted : leaf_count t ≡ count) where
     whole : lookup_leaf t l ≡ lookup_in (map (read_leaf ns) (range 0 count)) l
     unfolding lookup_leaf
     whole = rw (sym tb.has.leaves, counted)
 
-    room : count ≤ length ns
-    room = omega (arith, tb.has.room, tb.bounded.few_leaves)
-
-    pub found_is : (newer n : ℕ) → (newer < length newest) × HoldsAt Has newest newer × AllWithin HasNot newest 0 newer
-        → n ≡ get_or ns (leaf_nodes + count - 1 - newer) 0 → found_at n (newer + 1) ≡ lookup_leaf t l
-    found_is newer n first number =
-        let within : newer < count = omega (arith, first.0, newest_length room) in
-        let i : ℕ = count - newer in
+    pub found_is : (i n k : ℕ) → 0 < i → i ≤ count → NoneFrom i → get_or ns (i - 1) 0 ≡ l → n ≡ get_or ns (leaf_nodes + (i - 1)) 0 → k ≡ count - (i - 1)
+        → found_at n k ≡ lookup_leaf t l
+    found_is i n k some within none is number looked =
         let older : List LeafEntry = map (read_leaf ns) (range 0 (i - 1)) in
-        let later : List LeafEntry = map (read_leaf ns) (range (i - 1) (count - (i - 1))) in
+        let newer : List LeafEntry = map (read_leaf ns) (range (i - 1) (count - (i - 1))) in
         let e : count ≡ i - 1 + (count - (i - 1)) = omega arith in
         let f : 0 + (i - 1) ≡ i - 1 = omega arith in
-        let here : count - 1 - newer ≡ i - 1 = omega arith in
-        let at : leaf_nodes + count - 1 - newer ≡ leaf_nodes + (i - 1) = omega arith in
-        let looked : newer + 1 ≡ count - (i - 1) = omega arith in
-        rw (number, looked, at)
+        rw (number, looked)
         (sym (whole
         ∙ ap (λ (es : List LeafEntry). lookup_in es l) (ap (λ (k : ℕ). map (read_leaf ns) (range 0 k)) e ∙ ap (map (read_leaf ns)) (rw f at (range_append 0 (i - 1) (count - (i - 1))))
         ∙ map-append (read_leaf ns) (range 0 (i - 1)) (range (i - 1) (count - (i - 1))))
-        ∙ found_stays older later l (get_or ns (leaf_nodes + (i - 1)) 0) (count - (i - 1))
-        (there i (omega arith) (omega arith) (none_from room newer (omega arith) first.2) (rw here at (has room newer within first.1)))))
+        ∙ found_stays older newer l (get_or ns (leaf_nodes + (i - 1)) 0) (count - (i - 1)) (there i some within none is)))
 
-    pub missing_is : AllWithin HasNot newest 0 (length newest) → not_found count ≡ lookup_leaf t l
-    missing_is none =
-        let e : count - 0 ≡ count = omega arith in
-        let f : count - count ≡ 0 = omega arith in
-        sym (whole ∙ rw e at (rw f at (none_from room count (omega arith) (rw (newest_length room) at none))))
+    pub missing_is : (i k : ℕ) → NoneFrom i → i ≡ 0 → k ≡ count → not_found k ≡ lookup_leaf t l
+    missing_is i k none last all = let e : count - 0 ≡ count = omega arith in rw all (sym (whole ∙ rw (last, e) at none))

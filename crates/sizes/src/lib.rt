@@ -1,5 +1,6 @@
 // The limits that the code tests, the sizes of its tables and the places in them, each named once. `specs/Sizes.antt` has them
-// for contracts.
+// for contracts. Lists that go together stand side by side in one table of numbers, rows included: the tables are lent as
+// arrays of u32 of a fixed size, since no library crate takes memory from a heap.
 #![tactic(auto)]
 
 // ---- limits
