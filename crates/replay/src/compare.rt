@@ -9,11 +9,12 @@ use crate::report;
 use answer::Answer;
 use std::io;
 
-fn wide(x: u8) -> u32
-    ensures value { result ≡ x }
-    ensures upper_bound { result < 256 }
-{
-    x as u32
+// A script, with its recorded answer, and the log up to the answer's length.
+#[derive(Clone, Copy)]
+pub struct Case<'a> {
+    pub script: &'a [u8],
+    pub answer: Answer,
+    pub recorded: &'a [u8],
 }
 
 // The number that four bytes hold, low byte first.
@@ -21,7 +22,7 @@ fn word(b: &[u8; 24], at: usize) -> u32
     requires { at + 4 ≤ 24 }
     ensures { result ≡ word_at b.now at }
 {
-    wide(b[at]) + 256 * wide(b[at + 1]) + 65536 * wide(b[at + 2]) + 16777216 * wide(b[at + 3])
+    u32::from_le_bytes([b[at], b[at + 1], b[at + 2], b[at + 3]])
 }
 
 // What the library answers to a script and a log.
@@ -41,33 +42,11 @@ fn answer_to(script: &[u8], log: &mut [u8]) -> Answer
     }
 }
 
-// Are all six numbers the same?
-fn same(a: Answer, b: Answer) -> bool
-    ensures { (result ≡ true → a ≡ b) × (result ≡ false → a ≡ b → ⊥) }
-{
-    if a.number != b.number {
-        return false;
-    }
-    if a.place != b.place {
-        return false;
-    }
-    if a.length != b.length {
-        return false;
-    }
-    if a.steps != b.steps {
-        return false;
-    }
-    if a.clauses != b.clauses {
-        return false;
-    }
-    a.nodes == b.nodes
-}
-
 // A byte of a slice, which goes on with zeros.
 fn byte_or_zero(s: &[u8], i: usize) -> u8
     ensures { result ≡ get_or s.now i 0 }
 {
-    if i < s.len() { s[i] } else { 0 }
+    s.get(i).copied().unwrap_or(0)
 }
 
 // How many bytes from its front on a log has as recorded. The recorded log goes on with zeros.
@@ -76,46 +55,33 @@ fn agreed(log: &[u8], recorded: &[u8]) -> usize
     ensures before { (k : ℕ) → k < result → get_or log.now k 0 ≡ get_or recorded.now k 0 }
     ensures found { result < length log.now → get_or log.now result 0 ≡ get_or recorded.now result 0 → ⊥ }
 {
-    let mut i = 0;
-    while i < log.len() {
-        if log[i] != byte_or_zero(recorded, i) {
+    for (i, b) in log.iter().enumerate() {
+        if *b != byte_or_zero(recorded, i) {
             return i;
         }
-        i += 1;
     }
-    i
+    log.len()
 }
 
-// Plays a script on a log. Are the six numbers and every byte of the log as recorded?
-pub fn meets(script: &[u8], log: &mut [u8], answer: Answer, recorded: &[u8]) -> bool
-    ensures met { (result ≡ true → Met script.now (length log.old) answer recorded.now)
-        × (result ≡ false → Met script.now (length log.old) answer recorded.now → ⊥) }
-    ensures log_after { log.new ≡ (played script.now (length log.old)).log }
-{
-    let got = answer_to(script, log);
-    let n = agreed(log, recorded);
-    if same(got, answer) {
-        if n == log.len() {
-            return true;
+impl<'a> Case<'a> {
+    // Plays its script on a log. Are the six numbers and every byte of the log as recorded?
+    pub fn is_met(&self, log: &mut [u8]) -> bool
+        ensures met { (result ≡ true → Met self.now.script.now (length log.old) self.now.answer self.now.recorded.now)
+            × (result ≡ false → Met self.now.script.now (length log.old) self.now.answer self.now.recorded.now → ⊥) }
+        ensures log_after { log.new ≡ (played self.now.script.now (length log.old)).log }
+    {
+        let got = answer_to(self.script, log);
+        got == self.answer && agreed(log, self.recorded) == log.len()
+    }
+
+    // Where it is not met, plays it once more and shows both answers, and the first byte of the log that is not as recorded.
+    pub fn show(&self, rt: &impl Print, log: &mut [u8], case: u32) -> io::Result<()> {
+        let got = answer_to(self.script, log);
+        let n = agreed(log, self.recorded);
+        report::answer(rt, case, got, self.answer)?;
+        if n < log.len() {
+            report::log(rt, n, byte_or_zero(log, n), byte_or_zero(self.recorded, n))?;
         }
+        Ok(())
     }
-    false
-}
-
-// A case that is not met, played once more: both answers, and the first byte of the log that is not as recorded.
-pub fn show(
-    rt: &impl Print,
-    script: &[u8],
-    log: &mut [u8],
-    answer: Answer,
-    recorded: &[u8],
-    case: u32,
-) -> io::Result<()> {
-    let got = answer_to(script, log);
-    let n = agreed(log, recorded);
-    report::answer(rt, case, got, answer)?;
-    if n < log.len() {
-        report::log(rt, n, byte_or_zero(log, n), byte_or_zero(recorded, n))?;
-    }
-    Ok(())
 }

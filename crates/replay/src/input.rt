@@ -1,106 +1,72 @@
 // The recorded answers, read piece by piece.
-ghost use Rattle.std.specs.Prelude.{IfOk, IsTrue};
+ghost use Rattle.std.specs.Prelude.{OnOk};
 ghost use Rattle.std.specs.Io.KnownBytes.{Consumes};
 
 use answer::Answer;
-use number::Reading;
 use std::io;
 use std::io::{ErrorKind, Read};
 
 #[derive(Drop)]
-pub enum AnswerReading {
-    Answer(Answer),
+pub enum ReadError {
+    // The input ends too early, or a number does not read, or is too large.
     Bad,
+    Io(io::Error),
 }
 
-#[derive(Drop)]
-enum ByteReading {
-    Byte(u8),
-    End,
+impl From<io::Error> for ReadError {
+    fn from(e: io::Error) -> ReadError {
+        ReadError::Io(e)
+    }
 }
 
-// Fills a slice. Were there as many bytes?
-pub fn fill<R: Read>(input: &mut R, to: &mut [u8]) -> io::Result<bool>
-    ensures { IfOk result (λ is_full. IsTrue is_full → Consumes (R.remaining input.old) (R.remaining input.new) to.new) }
+// Fills a slice.
+pub fn fill<R: Read>(input: &mut R, to: &mut [u8]) -> Result<(), ReadError>
+    ensures { OnOk result (Consumes (R.remaining input.old) (R.remaining input.new) to.new) }
 {
     match input.read_exact(to) {
-        Ok(()) => Ok(true),
-        Err(e) if e.kind() == ErrorKind::UnexpectedEof => Ok(false),
-        Err(e) => Err(e),
+        Ok(()) => Ok(()),
+        Err(e) if e.kind() == ErrorKind::UnexpectedEof => Err(ReadError::Bad),
+        Err(e) => Err(ReadError::Io(e)),
     }
 }
 
-fn next_byte<R: Read>(input: &mut R) -> io::Result<ByteReading> {
+fn next_byte<R: Read>(input: &mut R) -> Result<u8, ReadError> {
     let mut one = [0u8; 1];
-    if fill(input, &mut one)? {
-        return Ok(ByteReading::Byte(one[0]));
-    }
-    Ok(ByteReading::End)
+    fill(input, &mut one)?;
+    Ok(one[0])
 }
 
 pub fn is_ended<R: Read>(input: &mut R) -> io::Result<bool> {
-    if let ByteReading::End = next_byte(input)? {
-        Ok(true)
-    } else {
-        Ok(false)
+    match next_byte(input) {
+        Ok(_) => Ok(false),
+        Err(ReadError::Bad) => Ok(true),
+        Err(ReadError::Io(e)) => Err(e),
     }
 }
 
-// The bytes of a number, up to the first below 128 and no more than a number may have. Does the input hold them?
-fn fill_groups<R: Read>(input: &mut R, to: &mut [u8; number::GROUPS]) -> io::Result<bool> {
-    let mut n = 0;
-    while n < number::GROUPS {
-        let ByteReading::Byte(b) = next_byte(input)? else {
-            return Ok(false);
-        };
-        to[n] = b;
-        if b < 128 {
-            return Ok(true);
+// The next number: its bytes are read up to the first below 128, and no more than a number may have.
+pub fn next_number<R: Read>(input: &mut R) -> Result<u32, ReadError> {
+    let mut groups = [0u8; number::GROUPS];
+    for i in 0..number::GROUPS {
+        groups[i] = next_byte(input)?;
+        if groups[i] < 128 {
+            break;
         }
-        n += 1;
     }
-    Ok(true)
-}
-
-// The number at the front.
-fn front(b: &[u8; number::GROUPS]) -> Reading {
-    number::read(b, 0)
-}
-
-pub fn next_number<R: Read>(input: &mut R) -> io::Result<Reading> {
-    let mut b = [0u8; number::GROUPS];
-    if fill_groups(input, &mut b)? {
-        return Ok(front(&b));
+    match number::read(&groups, 0) {
+        Some((x, _)) => Ok(x),
+        None => Err(ReadError::Bad),
     }
-    Ok(Reading::Bad)
 }
 
 // The next six numbers.
-pub fn next_answer<R: Read>(input: &mut R) -> io::Result<AnswerReading> {
-    let Reading::Number(number, _) = next_number(input)? else {
-        return Ok(AnswerReading::Bad);
-    };
-    let Reading::Number(place, _) = next_number(input)? else {
-        return Ok(AnswerReading::Bad);
-    };
-    let Reading::Number(length, _) = next_number(input)? else {
-        return Ok(AnswerReading::Bad);
-    };
-    let Reading::Number(steps, _) = next_number(input)? else {
-        return Ok(AnswerReading::Bad);
-    };
-    let Reading::Number(clauses, _) = next_number(input)? else {
-        return Ok(AnswerReading::Bad);
-    };
-    let Reading::Number(nodes, _) = next_number(input)? else {
-        return Ok(AnswerReading::Bad);
-    };
-    Ok(AnswerReading::Answer(Answer {
-        number,
-        place,
-        length,
-        steps,
-        clauses,
-        nodes,
-    }))
+pub fn next_answer<R: Read>(input: &mut R) -> Result<Answer, ReadError> {
+    Ok(Answer {
+        number: next_number(input)?,
+        place: next_number(input)?,
+        length: next_number(input)?,
+        steps: next_number(input)?,
+        clauses: next_number(input)?,
+        nodes: next_number(input)?,
+    })
 }

@@ -10,21 +10,13 @@ mod report;
 ghost use Rattle.std.specs.Prelude.{◌≡◌, ◌+◌, length};
 ghost use Rattle.sizes.specs.Sizes.{most_bytes};
 
-use compare::{meets, show};
-use input::AnswerReading;
-use number::Reading;
+use compare::Case;
+use input::ReadError;
 use std::io;
 use std::io::{BufReader, Read};
 
 // So many cases that are not met are shown.
 const SHOWN: u32 = 5;
-
-#[derive(Drop)]
-enum Played {
-    Met,
-    Unmet,
-    Bad,
-}
 
 // Room for a script or a log, a little longer than the library takes.
 const ROOM: usize = sizes::MOST_BYTES + 256;
@@ -36,7 +28,7 @@ fn room() -> [u8; ROOM]
     [255; ROOM]
 }
 
-// Reads the next case and plays it.
+// Reads the next case and plays it. Is it met?
 fn play<R: Read>(
     rt: &impl Print,
     input: &mut R,
@@ -45,44 +37,32 @@ fn play<R: Read>(
     script: &mut [u8],
     log: &mut [u8],
     recorded: &mut [u8],
-) -> io::Result<Played> {
-    let Reading::Number(log_length, _) = input::next_number(input)? else {
-        return Ok(Played::Bad);
-    };
-    let Reading::Number(script_length, _) = input::next_number(input)? else {
-        return Ok(Played::Bad);
-    };
-    let capacity = log_length as usize;
-    let n = script_length as usize;
-    if log.len() < capacity {
-        return Ok(Played::Bad);
+) -> Result<bool, ReadError> {
+    let capacity = input::next_number(input)? as usize;
+    let script_length = input::next_number(input)? as usize;
+    if log.len() < capacity || script.len() < script_length {
+        return Err(ReadError::Bad);
     }
-    if script.len() < n {
-        return Ok(Played::Bad);
-    }
-    if !input::fill(input, &mut script[0..n])? {
-        return Ok(Played::Bad);
-    }
-    let AnswerReading::Answer(answer) = input::next_answer(input)? else {
-        return Ok(Played::Bad);
-    };
+    let script = &mut script[..script_length];
+    input::fill(input, script)?;
+    let answer = input::next_answer(input)?;
     let used = answer.length as usize;
     if recorded.len() < used {
-        return Ok(Played::Bad);
+        return Err(ReadError::Bad);
     }
-    if !input::fill(input, &mut recorded[0..used])? {
-        return Ok(Played::Bad);
+    let recorded = &mut recorded[..used];
+    input::fill(input, recorded)?;
+    let log = &mut log[..capacity];
+    let read = Case {
+        script,
+        answer,
+        recorded,
+    };
+    let is_met = read.is_met(log);
+    if is_shown && !is_met {
+        read.show(rt, log, case)?;
     }
-    let script = &script[0..n];
-    let log = &mut log[0..capacity];
-    let recorded = &recorded[0..used];
-    if meets(script, log, answer, recorded) {
-        return Ok(Played::Met);
-    }
-    if is_shown {
-        show(rt, script, log, answer, recorded, case)?;
-    }
-    Ok(Played::Unmet)
+    Ok(is_met)
 }
 
 fn play_next<R: Read>(
@@ -90,7 +70,7 @@ fn play_next<R: Read>(
     input: &mut R,
     case: u32,
     is_shown: bool,
-) -> io::Result<Played> {
+) -> Result<bool, ReadError> {
     let mut script = room();
     let mut log = room();
     let mut recorded = room();
@@ -107,21 +87,18 @@ fn play_next<R: Read>(
 
 // Plays so many cases and prints what came of them.
 fn play_all<R: Read>(rt: &impl Print, input: &mut R, count: u32) -> io::Result<()> {
-    let mut case = 0;
     let mut met = 0;
-    while case < count {
-        let played = play_next(rt, input, case + 1, case - met < SHOWN)?;
-        match played {
-            Played::Met => met += 1,
-            Played::Unmet => {}
-            Played::Bad => break,
+    for case in 0..count {
+        match play_next(rt, input, case + 1, case - met < SHOWN) {
+            Ok(is_met) => met += u32::from(is_met),
+            Err(ReadError::Bad) => {
+                report::total(rt, case, met)?;
+                return report::unread(rt, case + 1);
+            }
+            Err(ReadError::Io(e)) => return Err(e),
         }
-        case += 1;
     }
-    report::total(rt, case, met)?;
-    if case < count {
-        return report::unread(rt, case + 1);
-    }
+    report::total(rt, count, met)?;
     if !input::is_ended(input)? {
         report::left_over(rt)?;
     }
@@ -130,8 +107,9 @@ fn play_all<R: Read>(rt: &impl Print, input: &mut R, count: u32) -> io::Result<(
 
 fn main(rt: HostRuntime) -> io::Result<()> {
     let mut input = BufReader::new(rt.alloc(), rt.reader())?;
-    let Reading::Number(count, _) = input::next_number(&mut input)? else {
-        return report::unread(&rt, 0);
-    };
-    play_all(&rt, &mut input, count)
+    match input::next_number(&mut input) {
+        Ok(count) => play_all(&rt, &mut input, count),
+        Err(ReadError::Bad) => report::unread(&rt, 0),
+        Err(ReadError::Io(e)) => Err(e),
+    }
 }

@@ -4,37 +4,9 @@ ghost use Rattle.std.specs.Prelude.{◌≤◌};
 use answer::Answer;
 use std::io;
 
-fn text(rt: &impl Print, s: &str) -> io::Result<()> {
-    print!(rt; "{s}")
-}
-
-fn number(rt: &impl Print, n: u32) -> io::Result<()> {
-    print!(rt; "{n}")
-}
-
-fn spaced(rt: &impl Print, n: u32) -> io::Result<()> {
-    text(rt, " ")?;
-    number(rt, n)
-}
-
-fn numbers(rt: &impl Print, a: Answer) -> io::Result<()> {
-    spaced(rt, a.number)?;
-    spaced(rt, a.place)?;
-    spaced(rt, a.length)?;
-    spaced(rt, a.steps)?;
-    spaced(rt, a.clauses)?;
-    spaced(rt, a.nodes)
-}
-
 // A case that is not met.
 pub fn answer(rt: &impl Print, case: u32, got: Answer, recorded: Answer) -> io::Result<()> {
-    text(rt, "case ")?;
-    number(rt, case)?;
-    text(rt, ": answer")?;
-    numbers(rt, got)?;
-    text(rt, ", recorded")?;
-    numbers(rt, recorded)?;
-    text(rt, "\n")
+    println!(rt; "case {case}: answer {got}, recorded {recorded}")
 }
 
 // The first byte of its log that is not as recorded.

@@ -18,13 +18,13 @@ fn read_on<R: Read>(input: &mut R) -> io::Result<()>
     Ok(())
 }
 
-// The whole sheet at the start of `text`, and how many bytes it has.
-fn whole(script: &[u8], text: &mut [u8]) -> usize
+// The whole sheet, at the start of `text`.
+fn whole<'a>(script: &[u8], text: &'a mut [u8]) -> &'a [u8]
     requires { most_sheet ≤ length text.old }
-    ensures counts { (result ≤ length text.new) × (result ≡ length (take result text.new)) }
-    ensures sheet { take result text.new ≡ sheet script.now }
+    ensures { result.now ≡ sheet script.now }
 {
-    lines::sheet(script, text)
+    let n = lines::sheet(script, text);
+    &text[..n]
 }
 
 // Puts the script into `to`, and reads the input to its end.
@@ -47,8 +47,8 @@ fn print_sheet<R: Read, W: Write>(alloc: Global, input: &mut R, output: &mut W) 
     let mut script = Vec::new(alloc);
     read_script(input, &mut script)?;
     let mut text = [0u8; lines::MOST_SHEET];
-    let m = whole(&script, &mut text);
-    output.write_all(&text[..m])
+    let sheet = whole(&script, &mut text);
+    output.write_all(sheet)
 }
 
 fn main(rt: HostRuntime) -> io::Result<()> {

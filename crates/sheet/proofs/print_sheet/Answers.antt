@@ -15,7 +15,7 @@ printed (Some script) old new before kept text empty k e a =
 
 pub returns-clause-sheet : goal.returns-clause-sheet
 returns-clause-sheet g c =
-    let text = c.whole-m.ensures.sheet ∙ ap sheet c.deref.ensures.value in
+    let text = c.whole-sheet.ensures ∙ ap sheet c.deref.ensures.value in
     on_ok_weaker c.write_all.result
     (printed (g.R.Read.remaining c.args.input.now) (g.W.Write.contents c.args.output.now) _ c.new-script.result.items c.read_script.new.to.items _
     c.new-script.ensures.items c.in_ok-read_script.ensures.script text) c.write_all.ensures.bytes

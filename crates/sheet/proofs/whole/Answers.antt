@@ -5,7 +5,7 @@ use Rattle.lines.specs.Sheet.{sheet}
 use Rattle.lines.proofs.Size.{sheet_length}
 use Rattle.sheet.proofs.whole.Goals as goal
 
-pub returns-clause-sheet : goal.returns-clause-sheet
-returns-clause-sheet c =
-    let s = c.sheet.ensures in
+pub returns : goal.returns
+returns c =
+    let s = c.sheet-n.ensures in
     (laid_fits c.args.text.now (sheet c.args.script.now) (omega (arith, sheet_length c.args.script.now, c.requires)) s.bytes s.count).0
