@@ -1,10 +1,10 @@
 -- Laws that the code's proofs cite: a line, and what one more line leaves.
-use mathlib.Core.Path.{◌≡◌, ◌∙◌}
+use mathlib.Core.Path.{◌≡◌}
 use mathlib.Core.List.{List, [], ◌∷◌, ◌++◌, map, flat_map, append-nil, map-append}
 use Prim.Native.Nat.{ℕ, ◌+◌, ◌≤◌, ◌<◌}
 use native.Mathlib.Numerals.{add-one}
-use lib.ListN.{length, get_or, take, drop}
-use lib.Seq.{take_all, take-suc, take_at, length-take-le}
+use lib.ListN.{length, get_or, take}
+use lib.Seq.{take_all, take-suc}
 use Rattle.memo.proofs.Lists.{flat_map_append}
 use Rattle.places.specs.Walk.{clause_at}
 use Rattle.text.specs.Text.{decimal, spaced}
@@ -17,10 +17,6 @@ line_none e = rw e
 pub line_some : {ls : List ℕ} (l : ℕ) (rest : List ℕ) → ls ≡ l ∷ rest → line ls ≡ decimal l ++ (flat_map spaced rest ++ newline)
 unfolding line
 line_some l rest e = rw e
-
--- A list printed, as what is put at its end.
-pub front_is : (n : ℕ) (ps a : List ℕ) → n ≤ length ps → length a ≡ length (take n ps) → take n (a ++ drop n ps) ≡ a
-front_is n ps a h e = take_at a (drop n ps) n (e ∙ length-take-le n ps h)
 
 module _ (log places : List ℕ) where
   pub lines_more : (i : ℕ) → i < length places

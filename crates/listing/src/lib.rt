@@ -50,8 +50,8 @@ pub fn all_lines(log: &[u8], out: &mut [u8], at: usize) -> usize
     requires { length log.now ≤ most_bytes }
     ensures { Prints (page out.old at) (lines_at log.now) (page out.new result) }
 {
-    let mut places = [0u32; places::MOST_CLAUSES];
-    let n = places::collect(log, &mut places);
-    sorting::sort(log, &mut places[..n]);
-    put_lines(log, &places[..n], out, at)
+    let mut room = [0u32; places::MOST_CLAUSES];
+    let places = places::collect(log, &mut room);
+    sorting::sort(log, places);
+    put_lines(log, places, out, at)
 }

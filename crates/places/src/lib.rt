@@ -115,10 +115,10 @@ fn add(log: &[u8], places: &mut [u32], n: usize, at: usize) -> usize
     n + 1
 }
 
-// Collects the places of the clauses of a log, in its order; what stands after them is open.
-pub fn collect(log: &[u8], places: &mut [u32]) -> usize
+// The places of the clauses of a log, in its order, at the front of a slice.
+pub fn collect<'a>(log: &[u8], places: &'a mut [u32]) -> &'a mut [u32]
     requires { (length log.now ≤ most_bytes) × (length log.now + 2 ≤ 3 * length places.old) }
-    ensures { (result ≤ length places.old) × (take result places.new ≡ clause_places log.now) }
+    ensures { (length result.now ≤ length places.old) × (result.now ≡ clause_places log.now) }
 {
     let mut at = 0;
     let mut n = 0;
@@ -126,5 +126,5 @@ pub fn collect(log: &[u8], places: &mut [u32]) -> usize
         n = add(log, places, n, at);
         at = after_record(log, at);
     }
-    n
+    &mut places[..n]
 }

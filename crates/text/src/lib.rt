@@ -6,6 +6,7 @@ ghost use Rattle.text.specs.Text.{page, Prints};
 ghost use Rattle.text.specs.Text.{decimal as Text·decimal, spaced as Text·spaced};
 
 // One byte, if there is room.
+#[tactic(auto, using(crate::proofs::Laws::put_room, crate::proofs::Laws::put_none))]
 pub fn put(out: &mut [u8], at: usize, b: u8) -> usize
     ensures { Prints (page out.old at) (b ∷ []) (page out.new result) }
 {
@@ -32,10 +33,11 @@ fn digit(x: u32) -> u8
     requires { x < 10 }
     ensures { result ≡ 48 + x }
 {
-    48 + x as u8
+    b'0' + x as u8
 }
 
-// A number in decimal.
+// A number in decimal. By hand, since `write!` would need a `fmt::Write` of the page, with a contract that says as much as
+// this one.
 pub fn decimal(out: &mut [u8], at: usize, x: u32) -> usize
     ensures { Prints (page out.old at) (Text·decimal x) (page out.new result) }
 {
@@ -50,6 +52,6 @@ pub fn decimal(out: &mut [u8], at: usize, x: u32) -> usize
 pub fn spaced(out: &mut [u8], at: usize, x: u32) -> usize
     ensures { Prints (page out.old at) (Text·spaced x) (page out.new result) }
 {
-    let end = put(out, at, 32);
+    let end = put(out, at, b' ');
     decimal(out, end, x)
 }

@@ -1,5 +1,6 @@
 use Rattle.std.proofs.Common.{rules, arith}
 use mathlib.Core.Path.{refl}
+use lib.ListN.{length-take}
 use Rattle.places.proofs.Collected.{collected_none, collected_more, collected_all, room_none, room_more}
 use Rattle.places.proofs.Within.{record_after}
 use Rattle.places.proofs.collect.Goals as goal
@@ -26,4 +27,4 @@ loop-at-preserved c =
 
 pub returns : goal.returns
 returns c =
-    (omega (arith, c.loop-at.invariant.1.at_end, c.requires), collected_all c.args.log.now c.loop-at-test.false c.loop-at.invariant.3)
+    (omega (arith, length-take c.loop-at.n c.loop-at.places), collected_all c.args.log.now c.loop-at-test.false c.loop-at.invariant.3)
