@@ -24,10 +24,10 @@ pub enum SemDefinition {
 
 // What a clause's step adds up: this definition, then those of the two sides.
 #[derive(Clone, Copy)]
-pub struct Operands {
-    pub this: SemDefinition,
-    pub left: SemDefinition,
-    pub right: SemDefinition,
+struct Operands {
+    this: SemDefinition,
+    left: SemDefinition,
+    right: SemDefinition,
 }
 
 // A clause with its step: the parts that there are, then the output.
@@ -156,8 +156,9 @@ impl Clause {
     }
 }
 
-// The two records of a clause, where there is room: the derivation of its step, then the clause. The operands are handed over
-// one by one: as one struct they pass through memory, at 9k more of the 657k instructions of the script balanced-41.
+// The two records of a clause, where there is room: the derivation of its step, then the clause. Here and in the next two the
+// operands are handed over one by one, and not as `Operands` to `put_record`: these pass through memory, at 13k more of the 657k
+// instructions of the script balanced-41.
 fn push_both(
     log: &mut [u8],
     at: usize,
@@ -177,15 +178,41 @@ fn push_both(
     c.push(log, middle)
 }
 
-// The two records of a clause, if both fit.
-pub fn put_clause(log: &mut [u8], at: usize, operands: Operands, c: Clause) -> usize
+// The two records near the end of the log.
+fn put_last_clause(
+    log: &mut [u8],
+    at: usize,
+    this: SemDefinition,
+    left: SemDefinition,
+    right: SemDefinition,
+    c: Clause,
+) -> usize
     ensures { Puts (buffer log.old at)
-        (numbers (derivation (sequence operands)) ++ clause_numbers c)
+        (numbers (derivation (step_tokens this left right)) ++ clause_numbers c)
         (buffer log.new result) }
 {
-    record::put_record::<CLAUSE_ROOM, _, _>(log, at, operands, |operands, log, at| {
-        push_both(log, at, operands.this, operands.left, operands.right, c)
-    })
+    let mut apart = [0u8; CLAUSE_ROOM];
+    let n = push_both(&mut apart, 0, this, left, right, c);
+    record::copy_out(log, at, &apart[..n])
+}
+
+// The two records of a clause, if both fit.
+pub fn put_clause(
+    log: &mut [u8],
+    at: usize,
+    this: SemDefinition,
+    left: SemDefinition,
+    right: SemDefinition,
+    c: Clause,
+) -> usize
+    ensures { Puts (buffer log.old at)
+        (numbers (derivation (step_tokens this left right)) ++ clause_numbers c)
+        (buffer log.new result) }
+{
+    if record::fits(log.len(), at, CLAUSE_ROOM) {
+        return push_both(log, at, this, left, right, c);
+    }
+    put_last_clause(log, at, this, left, right, c)
 }
 
 // ---- a clause with both parts, whose step adds up three steps, as in most: the records are those of `push_both`. They are

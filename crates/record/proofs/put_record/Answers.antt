@@ -1,7 +1,7 @@
--- `record::put_last` meets its contract.
+-- `record::put_record` meets its contract.
 use Rattle.std.proofs.Common.{rules}
 use Rattle.record.proofs.Writing.{from_apart}
-use Rattle.record.proofs.put_last.Goals as goal
+use Rattle.record.proofs.put_record.Goals as goal
 
 pub returns : goal.returns
 returns g c ns pushes =
