@@ -17,7 +17,7 @@ ghost use Rattle.define.specs.Lookups.{SideIn, RealOf};
 ghost use Rattle.clauses.specs.Firsts.{real_step, window_step, SideRead, has_first, side_stored, sides_stored};
 ghost use Rattle.clauses.specs.Joins.{JoinIn, ClauseIn, SideReach, SideRoom, ClauseValue, clause_of, clause_part, last_literal};
 
-use derivation::{Clause, Operands, SemDefinition};
+use derivation::{Clause, SemDefinition};
 use rows::{Join, Shown};
 
 // A split of a sum over the two sides of a join: the value, what each side has of it, and the direction of its clause.
@@ -146,18 +146,16 @@ fn put_clause(store: &[u32], log: &mut [u8], at: usize, x: Join, k: Split) -> us
     if log.len() < at {
         return at;
     }
-    let operands = Operands {
-        this: real_definition(store, x.node, k.value, k.only_if),
-        left: side_definition(store, x.left, k.left, !k.only_if),
-        right: side_definition(store, x.right, k.right, !k.only_if),
-    };
+    let this = real_definition(store, x.node, k.value, k.only_if);
+    let left = side_definition(store, x.left, k.left, !k.only_if);
+    let right = side_definition(store, x.right, k.right, !k.only_if);
     let c = Clause {
         step: store[sizes::STEP],
         left: part(x.left, k.left, k.only_if),
         right: part(x.right, k.right, k.only_if),
         output: own_literal(x, k.value, k.only_if),
     };
-    derivation::put_clause(log, at, operands, c)
+    derivation::put_clause(log, at, this, left, right, c)
 }
 
 // Whether a definition is stored, by its slot.

@@ -58,7 +58,8 @@ fn held_at(node: usize, value: usize) -> usize
     define::store_at(node) + sizes::HELD + value
 }
 
-// Whether a direction is among those held: 1 if, 2 only-if, 3 both.
+// Whether a direction is among those held: 1 if, 2 only-if, 3 both. They stay a number, as the store has them, whose tables are
+// lent as numbers; 0 holds none.
 fn has_direction(held: u32, only_if: bool) -> bool
     ensures { result ≡ is_held only_if held }
 {

@@ -15,19 +15,19 @@ pub returns-then-log-at : goal.returns-then-log-at
 returns-then-log-at c =
     λ ns. sims_past (write_grows (λ t. clause_of t c.args.x c.args.k)) c.if-log-at.true (counted_size c.args.store.now)
 
-pub real_definition-requires : goal.real_definition-requires
-real_definition-requires c =
+pub real_definition-this-requires : goal.real_definition-this-requires
+real_definition-this-requires c =
     let r = clause_reach c.requires.1.holds c.requires.1.table.bounded c.args.store.now (store_room c.requires.1.represents) in
     (r.node, r.row, omega (arith, r.within))
 
-pub side_definition-requires : goal.side_definition-requires
-side_definition-requires c =
+pub side_definition-left-requires : goal.side_definition-left-requires
+side_definition-left-requires c =
     let r = clause_reach c.requires.1.holds c.requires.1.table.bounded c.args.store.now (store_room c.requires.1.represents) in
     let e = exact_of c.if-log-at.false c.requires.1.represents in
     record { side_room = r.left; side_read = (c.requires.1.nodes, c.requires.1.state.stored, left_read c.requires.1.table c.requires.1.holds e) }
 
-pub side_definition-requires-2 : goal.side_definition-requires-2
-side_definition-requires-2 c =
+pub side_definition-right-requires : goal.side_definition-right-requires
+side_definition-right-requires c =
     let r = clause_reach c.requires.1.holds c.requires.1.table.bounded c.args.store.now (store_room c.requires.1.represents) in
     let e = exact_of c.if-log-at.false c.requires.1.represents in
     record { side_room = r.right; side_read = (c.requires.1.nodes, c.requires.1.state.stored, right_read c.requires.1.table c.requires.1.holds e) }
@@ -58,10 +58,10 @@ returns c =
     sims_write {ns = ns} {P = λ t s. ClauseIn t c.args.x c.args.k}
     (λ t. clause_of t c.args.x c.args.k) c.if-log-at.false c.put_clause.ensures.onward (λ n t s l p e.
     clause_puts t (clause_of t c.args.x c.args.k) s _ _ _ _
-    (c.real_definition.ensures
+    (c.real_definition-this.ensures
     ∙ real_read (firsts_of e) c.args.x.node c.args.k.value c.args.k.only_if (real_named l.bounded (this_in p l.bounded)).used)
-    (c.side_definition.ensures t s.stored (left_read l p e))
-    (c.side_definition-2.ensures t s.stored (right_read l p e))
+    (c.side_definition-left.ensures t s.stored (left_read l p e))
+    (c.side_definition-right.ensures t s.stored (right_read l p e))
     (three_parts (c.part.ensures t l.bounded (left_in p)) (c.part-2.ensures t l.bounded (right_in p))
     (c.own_literal.ensures t p.of))
     e.stores.counters.step c.put_clause.ensures)

@@ -8,12 +8,6 @@ use Rattle.clauses.proofs.window_definition.Goals as goal
 pub returns-then-key-eq0 : goal.returns-then-key-eq0
 returns-then-key-eq0 c = ap Step (window_origin _ _ _ _ _ (omega arith))
 
-pub overflow_sub-k : goal.overflow_sub-k
-overflow_sub-k c = omega (arith, c.requires.1 (omega arith))
-
-pub overflow_sub-k-2 : goal.overflow_sub-k-2
-overflow_sub-k-2 c = omega (arith, c.requires.1 (omega arith))
-
 pub returns-then-only_if : goal.returns-then-only_if
 returns-then-only_if c = ap Step (c.step_after.ensures ∙ window_only _ _ _ _ _ _ (omega arith) (omega arith) c.if-only_if.true)
 

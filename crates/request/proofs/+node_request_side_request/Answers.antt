@@ -23,10 +23,11 @@ node_request-is_held-requires t c = asked_room c.requires.table.bounded c.requir
 
 pub node_request-returns-then-log-at : goal.node_request-returns-then-log-at
 node_request-returns-then-log-at t c = elim c.then-log-at.branch [
-      node_request-then-log-at-via-then-log-at w ↦ sims_full (ask_grows _) w.if-log-at.true
-    | node_request-then-log-at-via-else-log-at+then-is_leaf w ↦ node_leaf (direction _) (sym w.is_leaf.ensures ∙ w.if-is_leaf.true)
-    | node_request-then-log-at-via-else-log-at+else-is_leaf+then-is_held w ↦
-          node_held _ w.if-log-at.false (sym w.is_leaf.ensures ∙ w.if-is_leaf.false) (sym w.is_held.ensures ∙ w.if-is_held.true) ]
+  | node_request-then-log-at-via-then-log-at w ↦ sims_full (ask_grows _) w.if-log-at.true
+  | node_request-then-log-at-via-else-log-at+then-is_leaf w ↦ node_leaf (direction _) (sym w.is_leaf.ensures ∙ w.if-is_leaf.true)
+  | node_request-then-log-at-via-else-log-at+else-is_leaf+then-is_held w ↦
+      node_held _ w.if-log-at.false (sym w.is_leaf.ensures ∙ w.if-is_leaf.false) (sym w.is_held.ensures ∙ w.if-is_held.true)
+]
 
 pub node_request-join_at-x-requires : goal.node_request-join_at-x-requires
 node_request-join_at-x-requires t c = asked_row c.requires.table c.requires.holds (sym c.is_leaf.ensures ∙ c.if-is_leaf.false)

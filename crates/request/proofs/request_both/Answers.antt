@@ -1,9 +1,8 @@
 -- `request::request_both` meets its contract: nothing is written, each direction is asked for by itself, or both at once.
-use Rattle.std.proofs.Common.{arith}
 use mathlib.Core.Path.{sym, ◌∙◌}
 use Rattle.cert.specs.State.{requests, directions}
-use Rattle.define.proofs.Simulates.{store_room, sims_full, represented_to}
-use Rattle.request.proofs.Asks.{asked_room, asked_row, asked_join}
+use Rattle.define.proofs.Simulates.{sims_full, represented_to}
+use Rattle.request.proofs.Asks.{asked_row, asked_join}
 use Rattle.request.proofs.Grow.{serve_grows}
 use Rattle.request.proofs.Steps.{leaf_serves, single_done, once_done}
 use Rattle.request.proofs.request_both.Goals.{then-log-at-via-then-log-at, then-log-at-via-else-log-at+then-is_leaf}
@@ -12,23 +11,9 @@ use Rattle.request.proofs.request_both.Goals as goal
 pub returns-then-log-at : goal.returns-then-log-at
 unfolding requests directions
 returns-then-log-at c = elim c.then-log-at.branch [
-      then-log-at-via-then-log-at w ↦ sims_full (serve_grows _) w.if-log-at.true
-    | then-log-at-via-else-log-at+then-is_leaf w ↦ leaf_serves (sym w.is_leaf.ensures ∙ w.if-is_leaf.true) ]
-
-pub held_at-requires : goal.held_at-requires
-held_at-requires c =
-    let r = asked_room c.requires.table.bounded c.requires.holds c.args.store.now (store_room c.requires.represents) in
-    (r.node, r.value)
-
-pub offset_bounds-store-held_at : goal.offset_bounds-store-held_at
-offset_bounds-store-held_at c =
-    let r = asked_room c.requires.table.bounded c.requires.holds c.args.store.now (store_room c.requires.represents) in
-    omega (arith, r.node, r.value, c.held_at.ensures)
-
-pub bounds-store-held_at : goal.bounds-store-held_at
-bounds-store-held_at c =
-    let r = asked_room c.requires.table.bounded c.requires.holds c.args.store.now (store_room c.requires.represents) in
-    omega (arith, r.row, r.value, c.held_at.ensures)
+  | then-log-at-via-then-log-at w ↦ sims_full (serve_grows _) w.if-log-at.true
+  | then-log-at-via-else-log-at+then-is_leaf w ↦ leaf_serves (sym w.is_leaf.ensures ∙ w.if-is_leaf.true)
+]
 
 pub returns-then-store-held_at-ne0 : goal.returns-then-store-held_at-ne0
 unfolding requests directions

@@ -46,11 +46,5 @@ loop-a-preserved c = (
   c.loop-a.invariant.7,
 )
 
-pub shape_of-store : goal.shape_of-store
-shape_of-store c = c.loop-a.invariant.4
-
-pub shape_of-log : goal.shape_of-log
-shape_of-log c = c.loop-a.invariant.5
-
 pub returns : goal.returns
 returns c = all_done _ c.loop-a.invariant.0 (omega arith) c.loop-a.invariant.6
