@@ -164,7 +164,7 @@ fn close(nodes: &[u32], store: &[u32], log: &mut [u8], t: Totals) -> Result<Tota
 }
 
 // A command: refused at the first question that fails, or done. What it wrote in vain lies from the place
-// on that is kept.
+// on that is kept. The tables and the log are slices of their own, since each command reads some of them and writes others.
 pub fn command(
     nodes: &mut [u32],
     store: &mut [u32],

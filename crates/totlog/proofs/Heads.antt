@@ -36,7 +36,7 @@ module _ (c n : ℕ) where
 
 module _ (bs : List ℕ) (c : ℕ) where
   pub refused_is : (r : Refusal) → Asked bs c (Err r) → played bs c ≡ refused_at_head c (number_of r)
-  refused_is r (begins h from e l p) = absurd (let z : ◌≡◌ {A = ℕ} 0 1 = cc in omega arith)
+  refused_is r (begins o e l p) = absurd (let z : ◌≡◌ {A = ℕ} 0 1 = cc in omega arith)
   refused_is r (turned_away v e p) = let same : v ≡ r = cc in p ∙ ap (λ (x : Refusal). refused_at_head c (number_of x)) same
 
   pub script_long : most_bytes < length bs → played bs c ≡ refused_at_head c 1

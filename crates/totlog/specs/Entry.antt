@@ -1,18 +1,19 @@
 -- The answer of the entry, and what its parts are handed and come to.
-use Rattle.std.specs.Prelude.{◌≡◌, true, false, Result, Ok, Err, List, ℕ, ◌+◌, ◌-◌, ◌*◌, ◌≤◌, ◌<◌, length, take, drop}
+use Rattle.std.specs.Prelude.{◌≡◌, false, Result, Ok, Err, List, ℕ, ◌+◌, ◌-◌, ◌*◌, ◌≤◌, ◌<◌, length, take, drop}
 use Rattle.record.specs.Record.{bytes, steps}
 use Rattle.answer.specs.Coded.{bytes_of, padded, word_at}
 use Rattle.answer.specs.declared.Answer.{Answer}
 use Rattle.cert.specs.State.{State, start, Head}
 use Rattle.sizes.specs.Sizes.{most_bytes, most_leaves, leaf_bytes, join_bytes}
 use Rattle.define.specs.Represents.{memory}
-use Rattle.player.specs.Player.{Outcome, outcome, plays, head_fits, played, refused_at_head}
+use Rattle.player.specs.Player.{Outcome, outcome, plays, played, refused_at_head}
 use Rattle.player.specs.Refusals.{number_of, number_or_none}
 use Rattle.player.specs.Script.{Commands, read_commands}
 use Rattle.player.specs.declared.Refusal.{Refusal}
 use Rattle.commands.specs.Standing.{Standing, Room, Reported}
 use Rattle.commands.specs.declared.Totals.{Totals}
 use Rattle.totlog.specs.declared.PlayEnd.{PlayEnd}
+use Rattle.totlog.specs.declared.opened.Opened.{Opened}
 
 -- ---- the answer
 
@@ -68,6 +69,13 @@ commands_from bs from = read_commands (length bs - from) false (drop from bs)
 abbrev pub played_from : List ℕ → ℕ → Head → ℕ → Outcome
 played_from bs from h c = plays h c (commands_from bs from).ending (commands_from bs from).list 0 (start h)
 
+-- The same of a script whose head has passed.
+abbrev pub commands_of : Opened → Commands
+commands_of o = commands_from o.script.now o.from
+
+abbrev pub played_of : Opened → ℕ → Outcome
+played_of o c = played_from o.script.now o.from o.head c
+
 -- What may be made before a command of a script of n bytes: nodes take the bytes of their commands, and there are two for each leaf at most.
 pub record Made (n leaves joins : ℕ) : Type 0 where
   pub few_leaves : leaves ≤ most_leaves
@@ -93,16 +101,7 @@ pub record Finished (h : Head) (c : ℕ) (cs : Commands) (log : List ℕ) (r : P
   pub counted : state.next_step ≡ h.step + Rattle.record.specs.Record.steps state.log
   pub few : length state.nodes ≤ 2 * most_leaves
 
--- What the entry's parts are lent: a script with a head, and a log of so many bytes, that are not too long.
-pub record Lent (script : List ℕ) (from capacity : ℕ) (h : Head) : Type 0 where
-  pub short : length script ≤ most_bytes
-  pub headed : 0 < from
-  pub inside : from ≤ length script
-  pub small : capacity ≤ most_bytes
-  pub head : head_fits h ≡ true
-
--- What questions 1, 2 and 3 come to: the head that the play begins with and the place after it, or the refusal at place 0.
-pub data Asked (script : List ℕ) (capacity : ℕ) (e : Result (Head × ℕ) Refusal) : Type 0 where
-  begins : (h : Head) (from : ℕ) → e ≡ Ok (h, from) → Lent script from capacity h
-      → played script capacity ≡ played_from script from h capacity → Asked script capacity e
+-- What questions 1, 2 and 3 come to: the script that is played, or the refusal at place 0.
+pub data Asked (script : List ℕ) (capacity : ℕ) (e : Result Opened Refusal) : Type 0 where
+  begins : (o : Opened) → e ≡ Ok o → capacity ≤ most_bytes → played script capacity ≡ played_of o capacity → Asked script capacity e
   turned_away : (r : Refusal) → e ≡ Err r → played script capacity ≡ refused_at_head capacity (number_of r) → Asked script capacity e

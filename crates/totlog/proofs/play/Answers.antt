@@ -10,12 +10,12 @@ use Rattle.totlog.proofs.play.Goals as goal
 
 pub loop-k-init : goal.loop-k-init
 loop-k-init c = (
-  c.requires.limits.1,
+  c.args.o.inside,
   omega arith,
   refl,
   refl,
   refl,
-  λ h p st. record { state = start h; standing = st; fuel = length c.args.script.now - c.args.from; enough = omega arith; is = refl; took = took_start h c.args.from },
+  λ h p st. record { state = start h; standing = st; fuel = length c.args.o.script.now - c.args.o.from; enough = omega arith; is = refl; took = took_start h c.args.o.from },
 )
 
 pub returns-in-Ok-None : goal.returns-in-Ok-None
@@ -30,7 +30,7 @@ pub command-requires : goal.command-requires
 command-requires c =
     let g = c.loop-k.invariant.5 c.requires.begun.head c.requires.begun.capacity c.requires.begun.standing in
     let reads = sym c.in-Ok-Some.ensures ∙ ap Ok c.in-Ok-Some.field-0-is in
-    (record { head = c.requires.begun.head; capacity = c.requires.begun.capacity; state = g.state; standing = g.standing; room = room_left c.loop-k.invariant.0 g reads c.requires.limits.2 c.loop-k.invariant.2 c.loop-k.invariant.3 }, unfold start in c.requires.begun.standing.variable)
+    (record { head = c.requires.begun.head; capacity = c.requires.begun.capacity; state = g.state; standing = g.standing; room = room_left c.loop-k.invariant.0 g reads c.requires.rows c.loop-k.invariant.2 c.loop-k.invariant.3 }, unfold start in c.requires.begun.standing.variable)
 
 pub returns-in-Err-command : goal.returns-in-Err-command
 returns-in-Err-command c =
