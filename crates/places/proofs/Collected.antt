@@ -1,29 +1,35 @@
 -- The walk of `collect`: the places of the clauses before a place, and those from it on.
-use mathlib.Core.Path.{◌≡◌, refl, ap, ◌∙◌}
+use mathlib.Core.Path.{◌≡◌, refl, sym, ap, ◌∙◌}
 use mathlib.Core.Bool.{Bool, true, false, cond}
 use mathlib.Core.List.{List, [], ◌∷◌, ◌++◌, append-nil, append_assoc}
 use Prim.Native.Nat.{ℕ, zero, suc, ◌+◌, ◌*◌, ◌≤◌, ◌<◌}
 use native.Mathlib.Omega.{arith}
-use borrow.Author.Tests.{lt-ltb, le-ltb, ne_eqb}
+use borrow.Author.Tests.{lt-ltb, le-ltb}
+use Rattle.std.specs.Prelude.{Option, Some, None}
+use Rattle.std.specs.Option.{unwrap_or}
+use Rattle.std.proofs.lemmas.Option.{none-some}
 use lib.ListN.{length}
-use Rattle.places.specs.declared.Item.{Item}
 use Rattle.places.specs.Walk.{item_at, is_clause, count_place, places_from, clause_places, after_record}
 use Rattle.places.proofs.Within.{item_within, record_after, clause_after}
 
-module _ (log : List ℕ) (at : ℕ) {kind : Item} (p : kind ≡ item_at log at) where
-  pub clause_here : kind.value ≡ 3 → is_clause log at ≡ true
-  clause_here h = rw (← p, h)
+-- The place of the clause of a record, as the code finds it.
+module _ (log : List ℕ) (at : ℕ) where
+  pub found_some : {p : ℕ} → Some p ≡ cond (is_clause log at) (Some (count_place log at)) None → (is_clause log at ≡ true) × (p ≡ count_place log at)
+  found_some {p} e = go (is_clause log at) refl e
+    where
+      go : (t : Bool) → is_clause log at ≡ t → Some p ≡ cond t (Some (count_place log at)) None → (is_clause log at ≡ true) × (p ≡ count_place log at)
+      go true i e = (i, ap (λ (o : Option ℕ). unwrap_or o 0) e)
+      go false i e = absurd (none-some p (sym e))
 
-  pub clause_not : (kind.value ≡ 3 → ⊥) → is_clause log at ≡ false
-  clause_not h = rw (← p) (ne_eqb kind.value 3 h)
+  pub found_none : ◌≡◌ {A = Option ℕ} None (cond (is_clause log at) (Some (count_place log at)) None) → is_clause log at ≡ false
+  found_none e = go (is_clause log at) refl e
+    where
+      go : (t : Bool) → is_clause log at ≡ t → ◌≡◌ {A = Option ℕ} None (cond t (Some (count_place log at)) None) → is_clause log at ≡ false
+      go true i e = absurd (none-some (count_place log at) e)
+      go false i e = i
 
--- The place of its count, as the code reads it.
-module _ (log : List ℕ) (at : ℕ) {kind step : Item} (p : kind ≡ item_at log at) (q : step ≡ item_at log kind.end) where
-  pub count_here : step.end ≡ count_place log at
-  count_here = ap (λ (i : Item). i.end) q ∙ ap (λ (i : Item). (item_at log i.end).end) p
-
-  pub count_within : at ≤ length log → step.end ≤ length log
-  count_within h = rw count_here (item_within log (item_at log at).end (item_within log at h).1).1
+  pub count_within : at ≤ length log → count_place log at ≤ length log
+  count_within h = (item_within log (item_at log at).end (item_within log at h).1).1
 
 -- What a record adds.
 abbrev pub here : List ℕ → ℕ → List ℕ

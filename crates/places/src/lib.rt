@@ -1,7 +1,7 @@
 // The clauses of a log by their places. Any bytes are read to their end: `specs/Walk.antt` says as what.
 #![tactic(auto)]
 
-ghost use Rattle.std.specs.Prelude.{◌≡◌, cond, [], ◌∷◌, ◌++◌, ◌+◌, ◌*◌, ◌≤◌, ◌<◌, length, take};
+ghost use Rattle.std.specs.Prelude.{◌≡◌, cond, Some, None, ◌+◌, ◌*◌, ◌≤◌, length};
 ghost use Rattle.sizes.specs.Sizes.{most_bytes};
 ghost use Rattle.std.specs.Iterator.{YieldsFirst, item_count};
 ghost use Rattle.places.specs.Walk.{item_at, numbers_left, clause_at, skip, after_number, after_token, after_record, is_clause, count_place, clause_places};
@@ -100,19 +100,16 @@ fn after_record(log: &[u8], at: usize) -> usize
     }
 }
 
-// Adds the place of the clause of the record at a place, if it has one, to n others. What stands after them is open.
-fn add(log: &[u8], places: &mut [u32], n: usize, at: usize) -> usize
-    requires { (length log.now ≤ most_bytes) × (n < length places.old) × (at ≤ length log.now) }
-    ensures { (result ≡ cond (is_clause log.now at) (n + 1) n) × (take result places.new
-        ≡ take n places.old ++ cond (is_clause log.now at) (count_place log.now at ∷ []) []) }
+// The place of the clause of the record at a place, if it has one.
+fn clause_place(log: &[u8], at: usize) -> Option<usize>
+    ensures { result ≡ cond (is_clause log.now at) (Some (count_place log.now at)) None }
 {
     let kind = number_at(log, at);
     if kind.value != 3 {
-        return n;
+        return None;
     }
     let step = number_at(log, kind.end);
-    places[n] = step.end as u32;
-    n + 1
+    Some(step.end)
 }
 
 // The places of the clauses of a log, in its order, at the front of a slice.
@@ -123,7 +120,10 @@ pub fn collect<'a>(log: &[u8], places: &'a mut [u32]) -> &'a mut [u32]
     let mut at = 0;
     let mut n = 0;
     while at < log.len() {
-        n = add(log, places, n, at);
+        if let Some(place) = clause_place(log, at) {
+            places[n] = place as u32;
+            n += 1;
+        }
         at = after_record(log, at);
     }
     &mut places[..n]

@@ -47,9 +47,9 @@ pub fn is_ended<R: Read>(input: &mut R) -> io::Result<bool> {
 // The next number: its bytes are read up to the first below 128, and no more than a number may have.
 pub fn next_number<R: Read>(input: &mut R) -> Result<u32, ReadError> {
     let mut groups = [0u8; number::GROUPS];
-    for i in 0..number::GROUPS {
-        groups[i] = next_byte(input)?;
-        if groups[i] < 128 {
+    for group in groups.iter_mut() {
+        *group = next_byte(input)?;
+        if *group < 128 {
             break;
         }
     }

@@ -34,20 +34,20 @@ fn play<R: Read>(
     input: &mut R,
     case: u32,
     is_shown: bool,
-    script: &mut [u8],
-    log: &mut [u8],
-    recorded: &mut [u8],
 ) -> Result<bool, ReadError> {
+    let mut script = room();
+    let mut log = room();
+    let mut recorded = room();
     let capacity = input::next_number(input)? as usize;
     let script_length = input::next_number(input)? as usize;
-    if log.len() < capacity || script.len() < script_length {
+    if ROOM < capacity || ROOM < script_length {
         return Err(ReadError::Bad);
     }
     let script = &mut script[..script_length];
     input::fill(input, script)?;
     let answer = input::next_answer(input)?;
     let used = answer.length as usize;
-    if recorded.len() < used {
+    if ROOM < used {
         return Err(ReadError::Bad);
     }
     let recorded = &mut recorded[..used];
@@ -65,31 +65,11 @@ fn play<R: Read>(
     Ok(is_met)
 }
 
-fn play_next<R: Read>(
-    rt: &impl Print,
-    input: &mut R,
-    case: u32,
-    is_shown: bool,
-) -> Result<bool, ReadError> {
-    let mut script = room();
-    let mut log = room();
-    let mut recorded = room();
-    play(
-        rt,
-        input,
-        case,
-        is_shown,
-        &mut script,
-        &mut log,
-        &mut recorded,
-    )
-}
-
 // Plays so many cases and prints what came of them.
 fn play_all<R: Read>(rt: &impl Print, input: &mut R, count: u32) -> io::Result<()> {
     let mut met = 0;
     for case in 0..count {
-        match play_next(rt, input, case + 1, case - met < SHOWN) {
+        match play(rt, input, case + 1, case - met < SHOWN) {
             Ok(is_met) => met += u32::from(is_met),
             Err(ReadError::Bad) => {
                 report::total(rt, case, met)?;
