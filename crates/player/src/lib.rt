@@ -72,6 +72,7 @@ pub enum Command {
 }
 
 // Three numbers in a row, with the place after them.
+#[inline]
 fn triple(script: &[u8], at: usize) -> Option<((u32, u32, u32), usize)>
     ensures { result ≡ triple_at script.now at }
 {
