@@ -17,5 +17,5 @@ push_groups-requires-then-x-lt2097152 c = omega (arith, encode_groups c.args.x 2
 pub push_groups-requires-then-x-lt268435456 : goal.push_groups-requires-then-x-lt268435456
 push_groups-requires-then-x-lt268435456 c = omega (arith, encode_groups c.args.x 3 (omega arith) (omega arith) (omega arith))
 
-pub push_five-requires : goal.push_five-requires
-push_five-requires c = omega (arith, encode_groups c.args.x 4 (omega arith) (omega arith) (omega arith))
+pub push_any-requires : goal.push_any-requires
+push_any-requires c = omega (arith, encode_groups c.args.x 4 (omega arith) (omega arith) (omega arith))
