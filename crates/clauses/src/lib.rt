@@ -150,10 +150,10 @@ fn put_clause(store: &[u32], log: &mut [u8], at: usize, x: Join, k: Split) -> us
     let left = side_definition(store, x.left, k.left, !k.only_if);
     let right = side_definition(store, x.right, k.right, !k.only_if);
     let c = Clause {
-        step: store[sizes::STEP],
         left: part(x.left, k.left, k.only_if),
         right: part(x.right, k.right, k.only_if),
         output: own_literal(x, k.value, k.only_if),
+        step: store[sizes::STEP],
     };
     derivation::put_clause(log, at, this, left, right, c)
 }
