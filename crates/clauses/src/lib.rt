@@ -152,8 +152,8 @@ fn put_clause(store: &[u32], log: &mut [u8], at: usize, x: Join, k: Split) -> us
     let c = Clause {
         left: part(x.left, k.left, k.only_if),
         right: part(x.right, k.right, k.only_if),
-        output: own_literal(x, k.value, k.only_if),
         step: store[sizes::STEP],
+        output: own_literal(x, k.value, k.only_if),
     };
     derivation::put_clause(log, at, this, left, right, c)
 }
