@@ -149,6 +149,7 @@ fn put_clause(store: &[u32], log: &mut [u8], at: usize, x: Join, k: Split) -> us
     let this = real_definition(store, x.node, k.value, k.only_if);
     let left = side_definition(store, x.left, k.left, !k.only_if);
     let right = side_definition(store, x.right, k.right, !k.only_if);
+    // The parts come first: with the step first the script balanced-41 takes 14k more of its 822k instructions.
     let c = Clause {
         left: part(x.left, k.left, k.only_if),
         right: part(x.right, k.right, k.only_if),
