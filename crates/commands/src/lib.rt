@@ -17,7 +17,7 @@ use totdb::Side;
 
 // How far the play is: the place of the log's next byte, the next step, the clauses, the nodes, the leaves among them, and the
 // next variable.
-#[derive(Clone, Copy, PartialEq, Eq)]
+#[derive(Clone, Copy)]
 pub struct Totals {
     pub at: usize,
     pub step: u32,

@@ -6,6 +6,8 @@ ghost use Rattle.sizes.specs.Sizes.{most_bytes};
 ghost use Rattle.std.specs.Iterator.{YieldsFirst, item_count};
 ghost use Rattle.places.specs.Walk.{item_at, numbers_left, clause_at, skip, after_number, after_token, after_record, is_clause, count_place, clause_places};
 
+use record::{codes, kinds};
+
 // The clauses of a log are no more than this: a clause takes three bytes, or is cut off by the end.
 pub const MOST_CLAUSES: usize = (sizes::MOST_BYTES + 2) / 3;
 
@@ -71,8 +73,8 @@ fn after_token(log: &[u8], at: usize) -> usize
     ensures { result ≡ after_token log.now at }
 {
     let t = number_at(log, at);
-    // Tokens 2 (add) and 4 (saturate) stand alone.
-    if t.value == 2 || t.value == 4 {
+    // These two stand alone.
+    if t.value == codes::ADD || t.value == codes::SATURATE {
         return t.end;
     }
     number_at(log, t.end).end
@@ -93,9 +95,9 @@ fn after_record(log: &[u8], at: usize) -> usize
     let first = number_at(log, kind.end);
     let second = number_at(log, first.end);
     match kind.value {
-        1 => after_numbers(log, 2 * u64::from(second.value) + 1, second.end),
-        2 => after_tokens(log, first.value, first.end),
-        3 => after_numbers(log, u64::from(second.value), second.end),
+        kinds::SUM => after_numbers(log, 2 * u64::from(second.value) + 1, second.end),
+        kinds::DERIVATION => after_tokens(log, first.value, first.end),
+        kinds::CLAUSE => after_numbers(log, u64::from(second.value), second.end),
         _ => after_numbers(log, u64::from(first.value), first.end),
     }
 }
@@ -105,7 +107,7 @@ fn clause_place(log: &[u8], at: usize) -> Option<usize>
     ensures { result ≡ cond (is_clause log.now at) (Some (count_place log.now at)) None }
 {
     let kind = number_at(log, at);
-    if kind.value != 3 {
+    if kind.value != kinds::CLAUSE {
         return None;
     }
     let step = number_at(log, kind.end);

@@ -61,8 +61,8 @@ impl Refusal {
     }
 }
 
-// A leaf with its literal; a join of two sides; a request of a node's value in a direction (1 if,
-// 2 only-if, 3 both); a close.
+// A leaf with its literal; a join of two sides; a request of a node's value in a direction (1 if, 2 only-if, 3 both); a close. The
+// direction stays a number here: question 12 asks of it after 8 and 11.
 #[derive(Clone, Copy)]
 pub enum Command {
     Leaf(u32),
