@@ -6,6 +6,7 @@ ghost use Rattle.answer.specs.Coded.{bytes_of, padded, text_of};
 
 use std::fmt;
 
+// Six numbers, as C reads them: the refusal's, 0 where there is none, and those that `include/totlog.h` lists.
 #[derive(Clone, Copy, PartialEq, Eq, Default)]
 pub struct Answer {
     pub number: u32,

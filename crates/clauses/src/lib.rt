@@ -20,7 +20,8 @@ ghost use Rattle.clauses.specs.Joins.{JoinIn, ClauseIn, SideReach, SideRoom, Cla
 use derivation::{Clause, SemDefinition};
 use rows::{Join, Shown};
 
-// A split of a sum over the two sides of a join: the value, what each side has of it, and the direction of its clause.
+// A split of a sum over the two sides of a join: the value, what each side has of it, and the direction of its clause. The
+// direction is a value and no closure, since literals, steps and parts all turn on it.
 #[derive(Clone, Copy)]
 pub struct Split {
     pub value: usize,

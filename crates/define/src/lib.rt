@@ -1,5 +1,8 @@
 // Definitions by the places of their first steps in the store: looked up, and written whole at their first lookup.
 // `specs/Store.antt` says where these places are, `specs/Represents.antt` what state the memory represents.
+// Tables and log are slices that C lends, and are handed on as such, with the place in the log: in a struct they pass through
+// memory, which took an eighth of a full log's time. Each contract says by `Represented` and `Simulates`, over a relation of its
+// own, what it needs of them and what it does to them.
 #![tactic(auto)]
 
 ghost use Rattle.std.specs.Prelude.{◌≡◌, ℕ, ◌+◌, ◌^◌, ◌≤◌, ◌<◌, length};

@@ -13,8 +13,8 @@ ghost use Rattle.derivation.specs.Summands.{summand};
 
 use record::{codes, kinds};
 
-// A definition as a derivation adds it: nothing, the step that defines it, or a literal axiom. It is an enum of its own, since
-// a derivation adds no value but one of these three, and takes each apart by `if let` and `let else`.
+// A definition as a derivation adds it: nothing, the step that defines it, or a literal axiom. It is an enum of its own, which
+// document 01 names: a derivation adds no value but one of these three, and takes each apart by `if let` and `let else`.
 #[derive(Clone, Copy)]
 pub enum SemDefinition {
     None,

@@ -115,6 +115,7 @@ fn write_request(
 }
 
 // A request, skipped where it is held: what it needs, left side and then right, then its clauses. A leaf has none.
+// Node and value change from call to call and the direction does not, so the three are no struct.
 #[cycle(node_request_side_request)]
 fn node_request(
     nodes: &[u32],

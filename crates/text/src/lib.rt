@@ -1,4 +1,5 @@
-// Writers of text into a slice, as far as it reaches. `specs/Text.antt` says what is written.
+// Writers of text into a slice, as far as it reaches. `specs/Text.antt` says what is written. The caller lends the slice, and
+// `at` is the place of the next byte: nothing here takes memory from a heap.
 #![tactic(auto)]
 
 ghost use Rattle.std.specs.Prelude.{◌≡◌, [], ◌∷◌, ◌+◌, ◌<◌};
