@@ -34,7 +34,7 @@ impl fmt::Display for Answer {
     }
 }
 
-// The 24 bytes of an answer.
+// The 24 bytes of an answer. A function and no `From`: its promise is an equation, as that of `pad` is.
 pub fn bytes(a: Answer) -> [u8; 24]
     ensures { result ≡ bytes_of a }
 {

@@ -32,8 +32,8 @@ fn count_steps(nodes: &[u32], slot: usize) -> u32
     1
 }
 
-// How many steps the first `marks` definitions have. That the tables have them stays a clause of each function: the caller in C
-// lends the tables as slices, and other commands change them between two closes.
+// How many steps the first `marks` definitions have. That the tables have them stays a clause of each function: other commands
+// write the two tables between two closes. `marks` is handed over, since `MarkedKeys` speaks of the definitions up to it.
 fn count_stored(nodes: &[u32], store: &[u32], marks: usize) -> u32
     requires { (t : List Node) × (es : List Stored) × MarkedKeys nodes.now store.now marks t es }
     ensures { (t : List Node) (es : List Stored) → MarkedKeys nodes.now store.now marks t es → result ≡ length (stored_steps t es) }

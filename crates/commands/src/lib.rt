@@ -27,7 +27,8 @@ pub struct Totals {
     pub variable: u32,
 }
 
-// Each command comes to the totals after it, or to its refusal, after which the totals are those before it.
+// Each command comes to the totals after it, or to its refusal, after which the totals are those before it. What it needs of tables
+// and totals is one name, `Ready`.
 
 // Questions 6 and 7, then a new leaf.
 fn leaf(nodes: &mut [u32], t: Totals, first_variable: u32, literal: u32) -> Result<Totals, Refusal>

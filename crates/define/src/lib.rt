@@ -1,8 +1,8 @@
 // Definitions by the places of their first steps in the store: looked up, and written whole at their first lookup.
 // `specs/Store.antt` says where these places are, `specs/Represents.antt` what state the memory represents.
-// Tables and log are slices that C lends, and are handed on as such, with the place in the log: in a struct they pass through
-// memory, which took an eighth of a full log's time. Each contract says by `Represented` and `Simulates`, over a relation of its
-// own, what it needs of them and what it does to them.
+// Tables and log are handed on as slices, and the log's place as a number, in a register: a function answers it, so that one line of
+// its contract, by `Represented` and `Simulates`, has the memory before and after. (The counters of the store, handed on as a
+// struct, cost an eighth of a full log's time: DECISIONS 49.)
 #![tactic(auto)]
 
 ghost use Rattle.std.specs.Prelude.{◌≡◌, ℕ, ◌+◌, ◌^◌, ◌≤◌, ◌<◌, length};

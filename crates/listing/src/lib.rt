@@ -51,7 +51,8 @@ pub fn all_lines(log: &[u8], out: &mut [u8], at: usize) -> usize
     ensures { Prints (page out.old at) (lines_at log.now) (page out.new result) }
 {
     let mut room = [0u32; places::MOST_CLAUSES];
-    let places = places::collect(log, &mut room);
+    let n = places::collect(log, &mut room);
+    let places = &mut room[..n];
     sorting::sort(log, places);
     put_lines(log, places, out, at)
 }

@@ -1,4 +1,5 @@
-// The table of the nodes: what it has, a leaf looked up in it, and a leaf or a join added to it.
+// The table of the nodes: what it has, a leaf looked up in it, and a leaf or a join added to it. The table's facts stay clauses: it
+// is lent in turn to be read and to be written.
 #![tactic(auto)]
 
 ghost use Rattle.std.specs.Prelude.{◌≡◌, List, [], ◌∷◌, ◌++◌, ◌+◌, ◌≤◌, ◌<◌, length, set};
@@ -19,7 +20,7 @@ pub fn lookup_leaf(nodes: &[u32], count: usize, literal: u32) -> LeafLookup
     requires { (t : List Node) × Table nodes.now t × (leaf_count t ≡ count) }
     ensures { (t : List Node) → Table nodes.now t → leaf_count t ≡ count → result ≡ lookup_leaf t literal }
 {
-    // By the index: with `iter().rev().position` a script that looks up the oldest leaf took 19% more instructions.
+    // By the index: with `iter().rev().position` a script that looks up the oldest leaf takes 19% more instructions.
     for i in (0..count).rev() {
         if nodes[i] == literal {
             return LeafLookup {

@@ -1,7 +1,7 @@
 // The clauses of a log by their places. Any bytes are read to their end: `specs/Walk.antt` says as what.
 #![tactic(auto)]
 
-ghost use Rattle.std.specs.Prelude.{◌≡◌, cond, Some, None, ◌+◌, ◌*◌, ◌≤◌, length};
+ghost use Rattle.std.specs.Prelude.{◌≡◌, cond, Some, None, ◌+◌, ◌*◌, ◌≤◌, length, take};
 ghost use Rattle.sizes.specs.Sizes.{most_bytes};
 ghost use Rattle.std.specs.Iterator.{YieldsFirst, item_count};
 ghost use Rattle.places.specs.Walk.{item_at, numbers_left, clause_at, skip, after_number, after_token, after_record, is_clause, count_place, clause_places};
@@ -61,7 +61,7 @@ pub fn literals(log: &[u8], place: usize) -> Numbers<'_>
     }
 }
 
-// The place after k numbers.
+// The place after k numbers. This and `after_tokens` are one fold each: a function of the step would be `fold` again.
 fn after_numbers(log: &[u8], k: u64, at: usize) -> usize
     ensures { result ≡ skip (after_number log.now) k at }
 {
@@ -114,10 +114,11 @@ fn clause_place(log: &[u8], at: usize) -> Option<usize>
     Some(step.end)
 }
 
-// The places of the clauses of a log, in its order, at the front of a slice.
-pub fn collect<'a>(log: &[u8], places: &'a mut [u32]) -> &'a mut [u32]
+// Collects the places of the clauses of a log, in its order; what stands after them is open. A loop: where a record ends is known
+// once it is read, and how many clauses there are at the end.
+pub fn collect(log: &[u8], places: &mut [u32]) -> usize
     requires { (length log.now ≤ most_bytes) × (length log.now + 2 ≤ 3 * length places.old) }
-    ensures { (length result.now ≤ length places.old) × (result.now ≡ clause_places log.now) }
+    ensures { (result ≤ length places.old) × (take result places.new ≡ clause_places log.now) }
 {
     let mut at = 0;
     let mut n = 0;
@@ -128,5 +129,5 @@ pub fn collect<'a>(log: &[u8], places: &'a mut [u32]) -> &'a mut [u32]
         }
         at = after_record(log, at);
     }
-    &mut places[..n]
+    n
 }

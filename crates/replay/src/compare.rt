@@ -49,8 +49,8 @@ fn byte_or_zero(s: &[u8], i: usize) -> u8
     s.get(i).copied().unwrap_or(0)
 }
 
-// How many bytes from its front on a log has as recorded. The recorded log goes on with zeros. A loop, since a `position` over
-// a zip with a chain of zeros is no plainer.
+// How many bytes from its front on a log has as recorded. The recorded log goes on with zeros. A loop: `find` over the
+// places would say the same in as many words.
 fn agreed(log: &[u8], recorded: &[u8]) -> usize
     ensures within { result ≤ length log.now }
     ensures before { (k : ℕ) → k < result → get_or log.now k 0 ≡ get_or recorded.now k 0 }

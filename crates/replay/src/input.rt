@@ -53,10 +53,8 @@ pub fn next_number<R: Read>(input: &mut R) -> Result<u32, ReadError> {
             break;
         }
     }
-    match number::read(&groups, 0) {
-        Some((x, _)) => Ok(x),
-        None => Err(ReadError::Bad),
-    }
+    let (x, _) = number::read(&groups, 0).ok_or(ReadError::Bad)?;
+    Ok(x)
 }
 
 // The next six numbers.

@@ -16,7 +16,7 @@ ghost use Rattle.request.specs.Asked.{ask_for, ask_both, write_both, is_held, he
 use rows::{Join, Shown};
 
 // The directions that a request names.
-#[derive(Clone, Copy, PartialEq, Eq)]
+#[derive(Clone, Copy)]
 pub enum Directions {
     If,
     OnlyIf,
@@ -24,7 +24,7 @@ pub enum Directions {
 }
 
 // A number that names no directions.
-#[derive(Clone, Copy, PartialEq, Eq)]
+#[derive(Clone, Copy)]
 pub struct UnknownDirections(pub u32);
 
 impl TryFrom<u32> for Directions {
@@ -115,7 +115,7 @@ fn write_request(
 }
 
 // A request, skipped where it is held: what it needs, left side and then right, then its clauses. A leaf has none.
-// Node and value change from call to call and the direction does not, so the three are no struct.
+// Node, value and direction are no struct: a call makes each anew, and the contract's `request` names them.
 #[cycle(node_request_side_request)]
 fn node_request(
     nodes: &[u32],
@@ -143,7 +143,7 @@ fn node_request(
 }
 
 // The literals that a value names on a side, from the lowest to the highest, one request each; the other side has q. A leaf
-// has none. Not inlined, it takes 19k more of the 810k instructions of the script balanced-41.
+// has none. Not inlined, it makes a play of the script balanced-41 take 2% more instructions.
 #[cycle(node_request_side_request)]
 #[inline]
 fn side_request(
@@ -179,7 +179,7 @@ fn side_request(
 }
 
 // What a request of a join needs, and not its clauses. `node_request` has this in its body, so that it and `side_request`
-// call each other directly.
+// call each other directly (document 01 names that form).
 fn serve_needs(
     nodes: &[u32],
     store: &mut [u32],

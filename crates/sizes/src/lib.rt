@@ -1,6 +1,7 @@
 // The limits that the code tests, the sizes of its tables and the places in them, each named once. `specs/Sizes.antt` has them
-// for contracts. Lists that go together stand side by side in one table of numbers, rows included: the tables are lent as
-// arrays of u32 of a fixed size, since no library crate takes memory from a heap.
+// for contracts. Document 01 has fixed tables by node and value in the place of Vec and maps: each is one slice of numbers, rows and
+// lists side by side, and the definitions of `rows` and `define` read it by place. In a row 0 is a leaf, not taken, not stored,
+// nothing held. Nodes go by the numbers that a script gives them.
 #![tactic(auto)]
 
 // ---- limits

@@ -55,7 +55,7 @@ fn are_long(x: Join) -> bool
 fn has_both(x: Join, k: Split) -> bool
     ensures { result ≡ has_both x k }
 {
-    // One test of the direction, for both sides: a test by side costs 31k more of the 810k instructions of balanced-41.
+    // One test of the direction, for both sides: a test by side makes a play of balanced-41 take 4% more instructions.
     if k.only_if {
         k.left <= x.left.len && k.right <= x.right.len
     } else {

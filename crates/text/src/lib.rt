@@ -1,5 +1,5 @@
-// Writers of text into a slice, as far as it reaches. `specs/Text.antt` says what is written. The caller lends the slice, and
-// `at` is the place of the next byte: nothing here takes memory from a heap.
+// Writers of text into a slice, as far as it reaches. `specs/Text.antt` says what is written. The slice and the place of the
+// next byte, `at`, are no struct: a writer answers the place, so that a contract has the page before and after in one line.
 #![tactic(auto)]
 
 ghost use Rattle.std.specs.Prelude.{◌≡◌, [], ◌∷◌, ◌+◌, ◌<◌};

@@ -186,7 +186,7 @@ impl<'a> Window<'a> {
     }
 }
 
-// The records of a window's key. The caller has the four apart, and to make a `Window` of them would ask more of it.
+// The records of a window's key. It takes the four apart: its one caller would make a `Window` only to hand it over.
 pub fn put_window(
     row: &[u32],
     outputs: &[u32],

@@ -5,4 +5,4 @@ use Rattle.listing.proofs.all_lines.Goals as goal
 
 pub returns : goal.returns
 unfolding lines_at clauses_at
-returns c = rw (c.sort.ensures, c.collect-places.ensures.1) at c.put_lines.ensures
+returns c = rw (c.sort.ensures, c.collect-n.ensures.1) at c.put_lines.ensures

@@ -1,6 +1,6 @@
 use Rattle.std.proofs.Common.{rules, arith}
 use mathlib.Core.Path.{◌≡◌, refl, ◌∙◌}
-use lib.ListN.{length, take, length-take}
+use lib.ListN.{length, take}
 use mathlib.Core.Bool.{cond}
 use mathlib.Core.List.{◌++◌, append-nil}
 use native.Mathlib.Numerals.{add-one}
@@ -46,4 +46,4 @@ loop-at-preserved c =
 
 pub returns : goal.returns
 returns c =
-    (omega (arith, length-take c.loop-at.n c.loop-at.places), collected_all c.args.log.now c.loop-at-test.false c.loop-at.invariant.3)
+    (omega (arith, c.loop-at.invariant.1.at_end, c.requires), collected_all c.args.log.now c.loop-at-test.false c.loop-at.invariant.3)
