@@ -82,7 +82,8 @@ fn window_definition(
     SemDefinition::Step(derivation::step_after(first, k))
 }
 
-// The definition of the a-th value of a side, once it is looked up.
+// The definition of the a-th value of a side, once it is looked up. `SideRoom` stays a clause, here and below: it speaks of the store,
+// which each call changes.
 fn side_definition(store: &[u32], s: Shown, a: usize, only_if: bool) -> SemDefinition
     requires side_room { SideRoom store.now s a }
     requires side_read { (t : List Node) × (es : List Stored) × SideRead store.now t es s a }
@@ -192,7 +193,8 @@ fn are_sides_stored(store: &[u32], x: Join, k: Split) -> bool
     is_side_stored(store, x.left, k.left) && is_side_stored(store, x.right, k.right)
 }
 
-// The definition of the value itself. Where it is stored, the test spares a call.
+// The definition of the value itself. Where it is stored, the test spares a call: without this test and those of the next and of
+// `look_up` a play of balanced-41 takes 8% more instructions.
 fn look_up_this(
     nodes: &[u32],
     store: &mut [u32],

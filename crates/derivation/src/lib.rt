@@ -216,7 +216,8 @@ pub fn put_clause(
 }
 
 // ---- a clause with both parts, whose step adds up three steps, as in most: the records are those of `push_both`. They are
-// written by functions of their own, since most of the log is such records, and no part of theirs has to be tested for being there (DECISIONS 47).
+// written by functions of their own, since most of the log is such records, and no part of theirs has to be tested for being there
+// (DECISIONS 47): without them and the tests of `splits` for such a clause a play of balanced-41 takes 26% more instructions.
 
 // The numbers of such a clause, and of the derivation of its step.
 #[derive(Clone, Copy)]

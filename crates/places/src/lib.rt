@@ -1,4 +1,5 @@
-// The clauses of a log by their places. Any bytes are read to their end: `specs/Walk.antt` says as what.
+// The clauses of a log by their places. Any bytes are read to their end: `specs/Walk.antt` says as what. Log and place are two values:
+// each reading is an equation with a definition of both.
 #![tactic(auto)]
 
 ghost use Rattle.std.specs.Prelude.{◌≡◌, cond, Some, None, ◌+◌, ◌*◌, ◌≤◌, length, take};

@@ -1,5 +1,6 @@
 // A script read at a place, and why one is refused. `specs/Script.antt` says what its bytes are,
-// `specs/Places.antt` what stands at a place, `specs/Refusals.antt` which number a refusal has.
+// `specs/Places.antt` what stands at a place, `specs/Refusals.antt` which number a refusal has. Script and place
+// are two values: each reading is an equation with a definition of both.
 #![tactic(auto)]
 
 ghost use Rattle.std.specs.Prelude.{◌≡◌, ◌≤◌, length};

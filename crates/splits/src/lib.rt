@@ -123,7 +123,8 @@ fn push_split(store: &[u32], log: &mut [u8], at: usize, x: Join, k: Split) -> us
 
 // ---- the clauses
 
-// The clause of a split. `long` says that the sides are plain and have two values or more.
+// The clause of a split. `long`, which is found once for all splits of a join, says that its sides are plain and have two values or
+// more.
 fn write_split(
     nodes: &[u32],
     store: &mut [u32],

@@ -1,4 +1,5 @@
-// A script whose head has passed its questions, with the place after it, where the first command stands.
+// A script whose head has passed its questions, with the place after it, where the first command stands. The log is no part of it:
+// it is lent on to be written.
 
 ghost use Rattle.std.specs.Prelude.{◌≡◌, true, ◌<◌, ◌≤◌, length};
 ghost use Rattle.sizes.specs.Sizes.{most_bytes};
