@@ -115,8 +115,9 @@ fn clause_place(log: &[u8], at: usize) -> Option<usize>
     Some(step.end)
 }
 
-// Collects the places of the clauses of a log, in its order; what stands after them is open. A loop: where a record ends is known
-// once it is read, and how many clauses there are at the end.
+// Collects the places of the clauses of a log, in its order; what stands after them is open. It answers how many they are, and no part
+// of the slice, since its promise is of the slice. A loop: where a record ends is known once it is read, and how many clauses there
+// are at the end.
 pub fn collect(log: &[u8], places: &mut [u32]) -> usize
     requires { (length log.now ≤ most_bytes) × (length log.now + 2 ≤ 3 * length places.old) }
     ensures { (result ≤ length places.old) × (take result places.new ≡ clause_places log.now) }
