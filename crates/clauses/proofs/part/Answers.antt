@@ -7,9 +7,6 @@ pub returns-then-s-a : goal.returns-then-s-a
 unfolding Rattle.derivation.specs.Operands.part
 returns-then-s-a c = λ t b i. rw c.if-only_if.true (only_absent b i (omega arith))
 
-pub part_literal-requires : goal.part_literal-requires
-part_literal-requires c = (c.requires.side_reach.0, c.requires.side_reach.1.above c.if-only_if.true, omega arith)
-
 pub returns-then-only_if : goal.returns-then-only_if
 unfolding Rattle.derivation.specs.Operands.part
 returns-then-only_if c = λ t b i. rw c.if-only_if.true (c.part_literal.ensures t b i)
@@ -17,9 +14,6 @@ returns-then-only_if c = λ t b i. rw c.if-only_if.true (c.part_literal.ensures 
 pub returns-then-a-eq0 : goal.returns-then-a-eq0
 unfolding Rattle.derivation.specs.Operands.part
 returns-then-a-eq0 c = λ t b i. rw c.if-only_if.false (if_absent b i (omega arith))
-
-pub part_literal-requires-2 : goal.part_literal-requires-2
-part_literal-requires-2 c = (c.requires.side_reach.0, omega arith, c.requires.side_reach.1.below c.if-only_if.false)
 
 pub returns : goal.returns
 unfolding Rattle.derivation.specs.Operands.part

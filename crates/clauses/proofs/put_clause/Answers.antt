@@ -1,5 +1,4 @@
 -- `clauses::put_clause` meets its contract: nothing where the log is too short, else the records of the clause.
-use Rattle.std.proofs.Common.{arith}
 use mathlib.Core.Path.{◌∙◌}
 use Rattle.cert.specs.Requests.{definition}
 use Rattle.define.proofs.Counted.{counted_size}
@@ -14,11 +13,6 @@ use Rattle.clauses.proofs.put_clause.Goals as goal
 pub returns-then-log-at : goal.returns-then-log-at
 returns-then-log-at c =
     λ ns. sims_past (write_grows (λ t. clause_of t c.args.x c.args.k)) c.if-log-at.true (counted_size c.args.store.now)
-
-pub real_definition-this-requires : goal.real_definition-this-requires
-real_definition-this-requires c =
-    let r = clause_reach c.requires.1.holds c.requires.1.table.bounded c.args.store.now (store_room c.requires.1.represents) in
-    (r.node, r.row, omega (arith, r.within))
 
 pub side_definition-left-requires : goal.side_definition-left-requires
 side_definition-left-requires c =
@@ -41,15 +35,6 @@ pub part-requires-2 : goal.part-requires-2
 part-requires-2 c =
     let r = clause_reach c.requires.1.holds c.requires.1.table.bounded c.args.store.now (store_room c.requires.1.represents) in
     record { side_reach = (r.right.reach, r.right_in); bounded = (c.requires.1.nodes, c.requires.1.table.bounded, right_in c.requires.1.holds) }
-
-pub bounds-store-8193 : goal.bounds-store-8193
-bounds-store-8193 c =
-    omega (arith, store_room c.requires.1.represents)
-
-pub own_literal-requires : goal.own_literal-requires
-own_literal-requires c =
-    let r = clause_reach c.requires.1.holds c.requires.1.table.bounded c.args.store.now (store_room c.requires.1.represents) in
-    record { limits = (r.first, r.above, r.within); join_in = (c.requires.1.nodes, c.requires.1.holds.of) }
 
 pub returns : goal.returns
 unfolding clause_of definition

@@ -3,13 +3,6 @@ use Rattle.record.specs.Record.{numbers}
 use Rattle.record.proofs.Writing.{after}
 use Rattle.closing.proofs.put_deletion.Goals as goal
 
-pub count_stored-requires : goal.count_stored-requires
-count_stored-requires c = c.requires
-
-pub put_stored-requires : goal.put_stored-requires
-put_stored-requires c =
-    c.requires
-
 pub returns : goal.returns
 unfolding numbers
 returns c =

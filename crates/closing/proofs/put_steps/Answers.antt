@@ -19,8 +19,3 @@ loop-step-preserved c =
       search rules,
       rw (e, range_snoc c.args.first (c.loop-step.step - c.args.first), f) (after c.loop-step.invariant.3 c.put-end.ensures),
     )
-
-pub returns : goal.returns
-returns c =
-    let e : c.loop-step.step - c.args.first ≡ c.args.count = omega (arith, c.loop-step.invariant.1, c.loop-step-test.false) in
-    rw e at c.loop-step.invariant.3

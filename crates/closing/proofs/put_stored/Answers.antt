@@ -4,11 +4,8 @@ use mathlib.Core.List.{flat_map}
 use native.Mathlib.Numerals.{add-one}
 use Rattle.record.proofs.Writing.{after, nothing}
 use Rattle.cert.specs.State.{stored_steps}
-use Rattle.closing.proofs.Marks.{mark_count, mark_is, mark_inside, first_is, first_low, steps_more, all_marks}
+use Rattle.closing.proofs.Marks.{mark_is, mark_inside, first_is, first_low, steps_more}
 use Rattle.closing.proofs.put_stored.Goals as goal
-
-pub slice_bounds-slot-items-end : goal.slice_bounds-slot-items-end
-slice_bounds-slot-items-end c = mark_count c.requires.2
 
 pub loop-slot-init : goal.loop-slot-init
 unfolding stored_steps flat_map
@@ -33,6 +30,3 @@ loop-slot-preserved c = (
       rw (add-one c.loop-slot.slot-index, steps_more l c.loop-slot.slot-index c.loop-slot-test.true, ← k, ← first)
       (after (c.loop-slot.invariant.1 t es l) c.put_steps-end.ensures),
 )
-
-pub returns : goal.returns
-returns c = λ t es l. rw (all_marks l _ c.loop-slot-test.false) at (c.loop-slot.invariant.1 t es l)

@@ -39,11 +39,6 @@ pub put_window-end-requires : goal.put_window-end-requires
 put_window-end-requires c =
     bounds_of c.before.requires.1.table.bounded (exact_of c.if-log-at.false c.before.requires.1.represents) c.before.requires.1.holds.0 c.store_at-row.ensures
 
-pub overflow_add-s : goal.overflow_add-s
-overflow_add-s c =
-    let b = window_bounds c.before.requires.1.table.bounded c.before.requires.1.represents c.before.requires.1.holds.0.window in
-    omega (arith, b.small)
-
 pub overflow_cast-len : goal.overflow_cast-len
 overflow_cast-len c =
     let b = window_bounds c.before.requires.1.table.bounded c.before.requires.1.represents c.before.requires.1.holds.0.window in

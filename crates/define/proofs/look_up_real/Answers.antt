@@ -1,5 +1,5 @@
 -- `define::look_up_real` meets its contract: the log is too short, the key is stored, or its records are written.
-use Rattle.std.proofs.Common.{rules, arith}
+use Rattle.std.proofs.Common.{arith}
 use mathlib.Core.Path.{refl}
 use Prim.Native.Nat.{◌+◌}
 use Rattle.sizes.specs.Sizes.{list_column, store_at}
@@ -14,21 +14,6 @@ use Rattle.define.proofs.Slots.{real_named}
 use Rattle.define.proofs.look_up_real.Goals.{then-log-at-via-then-log-at, then-log-at-via-else-log-at+then-store-slot-ne0}
 use Rattle.define.proofs.look_up_real.Goals as goal
 
-pub overflow_add-slot : goal.overflow_add-slot
-overflow_add-slot c =
-    let b = real_bounds c.requires in
-    search rules
-
-pub offset_bounds-store-slot : goal.offset_bounds-store-slot
-offset_bounds-store-slot c =
-    let b = real_bounds c.requires in
-    search rules
-
-pub bounds-store-slot : goal.bounds-store-slot
-bounds-store-slot c =
-    let b = real_bounds c.requires in
-    search rules
-
 pub returns-then-log-at : goal.returns-then-log-at
 unfolding slot
 returns-then-log-at c = elim c.then-log-at.branch [
@@ -38,21 +23,11 @@ returns-then-log-at c = elim c.then-log-at.branch [
       (λ t s l p. real_named l.bounded p) (λ t s l p. refl) (rw c.store_at.ensures at w.if-store-slot-ne0.true)
 ]
 
-pub slice_bounds-put_real-end : goal.slice_bounds-put_real-end
-slice_bounds-put_real-end c =
-    let b = real_bounds c.requires in
-    omega (arith, b.there, b.short, row_length c.args.nodes.now c.args.node c.args.value c.row_at-row.ensures c.number_at-len.ensures.0, c.row_at-row.ensures)
-
 pub put_real-end-requires : goal.put_real-end-requires
 put_real-end-requires c =
     let b = real_bounds c.requires in
     let k = row_length c.args.nodes.now c.args.node c.args.value c.row_at-row.ensures c.number_at-len.ensures.0 in
     record { limits = (part_short (c.row_at-row.result + list_column) c.number_at-len.result c.args.nodes.now (omega (arith, b.short, k)), b.values, rw c.row_at-row.ensures b.low); node_of = (node_at c.requires.nodes c.args.node, real_node c.args.nodes.now c.args.node c.args.value c.row_at-row.ensures c.number_at-len.ensures.0 c.requires.nodes c.requires.table c.requires.holds) }
-
-pub store_key-requires : goal.store_key-requires
-store_key-requires c =
-    let b = real_bounds c.requires in
-    (omega (arith, c.store_at.ensures), omega (arith, c.store_at.ensures, b.room, b.values), omega (arith, c.store_at.ensures, b.nodes, b.values), omega (arith, c.count_real.ensures.upper_bound))
 
 pub returns : goal.returns
 unfolding slot pulls

@@ -28,11 +28,5 @@ pub loop-i-preserved : goal.loop-i-preserved
 loop-i-preserved c =
     (search rules, search rules, search rules, reals_more c.loop-i-test.true c.loop-i.invariant.3 c.look_up_real-p.ensures)
 
-pub shape_of-store : goal.shape_of-store
-shape_of-store c = c.loop-i.invariant.1
-
-pub shape_of-log : goal.shape_of-log
-shape_of-log c = c.loop-i.invariant.2
-
 pub returns : goal.returns
 returns c = rw (le_antisymm c.loop-i.invariant.0 c.loop-i-test.false) at c.loop-i.invariant.3

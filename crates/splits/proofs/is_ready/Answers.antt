@@ -4,12 +4,6 @@ use Rattle.splits.proofs.Ready.{and_then, and_else, ready_value}
 use Rattle.splits.proofs.is_ready.Goals.{then-long, else-long, then-has_both, else-has_both, then-fits, else-fits, then-has_first, else-has_first}
 use Rattle.splits.proofs.is_ready.Goals as goal
 
-pub has_first_of-requires : goal.has_first_of-requires
-has_first_of-requires c = c.requires.left
-
-pub has_first_of-requires-then-has_first_of : goal.has_first_of-requires-then-has_first_of
-has_first_of-requires-then-has_first_of c = c.requires.right
-
 pub returns-then-has_first_of : goal.returns-then-has_first_of
 returns-then-has_first_of c =
     ready_value c.args.store.now c.args.length c.args.at c.args.x c.args.k c.args.long

@@ -13,21 +13,6 @@ use Rattle.clauses.proofs.Written.{firsts_of, sims_write, three_parts}
 use Rattle.splits.proofs.Ready.{long_sides, long_used, long_operand, whole_puts}
 use Rattle.splits.proofs.push_split.Goals as goal
 
-pub overflow_add-this : goal.overflow_add-this
-overflow_add-this c =
-    let r = clause_reach c.requires.represented.1.holds c.requires.represented.1.table.bounded c.args.store.now (store_room c.requires.represented.1.represents) in
-    omega (arith, c.store_at.ensures, r.row, r.within)
-
-pub offset_bounds-store-store_at : goal.offset_bounds-store-store_at
-offset_bounds-store-store_at c =
-    let r = clause_reach c.requires.represented.1.holds c.requires.represented.1.table.bounded c.args.store.now (store_room c.requires.represented.1.represents) in
-    omega (arith, c.store_at.ensures, r.row, r.within)
-
-pub bounds-store-store_at : goal.bounds-store-store_at
-bounds-store-store_at c =
-    let r = clause_reach c.requires.represented.1.holds c.requires.represented.1.table.bounded c.args.store.now (store_room c.requires.represented.1.represents) in
-    omega (arith, c.store_at.ensures, r.row, r.within)
-
 pub first_of-left-requires : goal.first_of-left-requires
 first_of-left-requires c =
     let r = clause_reach c.requires.represented.1.holds c.requires.represented.1.table.bounded c.args.store.now (store_room c.requires.represented.1.represents) in
@@ -37,10 +22,6 @@ pub first_of-right-requires : goal.first_of-right-requires
 first_of-right-requires c =
     let r = clause_reach c.requires.represented.1.holds c.requires.represented.1.table.bounded c.args.store.now (store_room c.requires.represented.1.represents) in
     r.right
-
-pub bounds-store-8193 : goal.bounds-store-8193
-bounds-store-8193 c =
-    omega (arith, store_room c.requires.represented.1.represents)
 
 pub later_step-requires : goal.later_step-requires
 later_step-requires c =
@@ -68,11 +49,6 @@ pub part_literal-requires-2 : goal.part_literal-requires-2
 part_literal-requires-2 c =
     let r = clause_reach c.requires.represented.1.holds c.requires.represented.1.table.bounded c.args.store.now (store_room c.requires.represented.1.represents) in
     (r.right.reach, c.requires.both_parts.0.right_above, c.requires.both_parts.0.right_within)
-
-pub own_literal-requires : goal.own_literal-requires
-own_literal-requires c =
-    let r = clause_reach c.requires.represented.1.holds c.requires.represented.1.table.bounded c.args.store.now (store_room c.requires.represented.1.represents) in
-    record { limits = (r.first, r.above, r.within); join_in = (c.requires.represented.1.nodes, c.requires.represented.1.holds.of) }
 
 pub returns : goal.returns
 unfolding clause_of definition

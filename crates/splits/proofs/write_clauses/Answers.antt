@@ -4,9 +4,6 @@ use Rattle.define.proofs.Simulates.{represented_to, represented_after}
 use Rattle.splits.proofs.Splits.{between, split_in, none_yet, one_more, all_done}
 use Rattle.splits.proofs.write_clauses.Goals as goal
 
-pub split_sum-sum-requires : goal.split_sum-sum-requires
-split_sum-sum-requires c = c.requires.holds.above
-
 pub overflow_add-a-end : goal.overflow_add-a-end
 overflow_add-a-end c =
     let w = between c.requires c.split_sum-sum.ensures c.saturating_sub-low.ensures c.min-high.ensures in
@@ -17,12 +14,6 @@ loop-a-init c =
     let w = between c.requires c.split_sum-sum.ensures c.saturating_sub-low.ensures c.min-high.ensures in
     (w, refl, omega arith, omega (arith, w.some), refl, refl, none_yet _ _, c.are_long-long.ensures)
 
-pub left_value-requires : goal.left_value-requires
-left_value-requires c = omega (arith, c.loop-a.invariant.0.short)
-
-pub overflow_sub-k : goal.overflow_sub-k
-overflow_sub-k c = omega (arith, c.loop-a.invariant.0.within)
-
 pub write_split-p-requires : goal.write_split-p-requires
 write_split-p-requires c =
     record {
@@ -30,9 +21,6 @@ write_split-p-requires c =
       represented = represented_to (λ t s l i. split_in c.loop-a.invariant.0 c.loop-a.a c.loop-a.invariant.2 (omega arith) (rw c.left_value.ensures) t i)
           (represented_after (λ t s l i. i) c.loop-a.invariant.6 c.requires);
     }
-
-pub overflow_step-a : goal.overflow_step-a
-overflow_step-a c = omega (arith, c.loop-a.invariant.0.short)
 
 pub loop-a-preserved : goal.loop-a-preserved
 loop-a-preserved c = (

@@ -1,5 +1,4 @@
 -- `splits::write_split` meets its contract: the clause is ready and its lookups do nothing, or it is written with what it looks up.
-use Rattle.std.proofs.Common.{arith}
 use mathlib.Core.Path.{sym, ◌∙◌}
 use Rattle.define.proofs.Simulates.{store_room}
 use Rattle.clauses.proofs.Joins.{clause_reach}
@@ -17,9 +16,6 @@ push_split-end-requires c =
     let r = readied (sym c.is_ready.ensures ∙ c.if-is_ready.true) in
     let long = sym c.requires.long_value ∙ r.long_is in
     record { both_parts = (both_parts long r.both c.requires.represented.holds.left c.requires.represented.holds.right, r.room); represented = (c.args.nodes.now, c.requires.represented) }
-
-pub count_clause-requires : goal.count_clause-requires
-count_clause-requires c = omega (arith, store_room c.requires.represented.represents)
 
 pub returns-then-is_ready : goal.returns-then-is_ready
 returns-then-is_ready c =
