@@ -13,14 +13,6 @@ use Rattle.request.proofs.+node_request_side_request.Goals as goal
 
 -- ---- a node
 
-pub node_request-is_leaf-requires : goal.node_request-is_leaf-requires
-node_request-is_leaf-requires t c =
-    let r = row_there c.requires.table _ c.requires.holds.there in
-    (r.1, r.0)
-
-pub node_request-is_held-requires : goal.node_request-is_held-requires
-node_request-is_held-requires t c = asked_room c.requires.table.bounded c.requires.holds _ (store_room c.requires.represents)
-
 pub node_request-returns-then-log-at : goal.node_request-returns-then-log-at
 node_request-returns-then-log-at t c = elim c.then-log-at.branch [
   | node_request-then-log-at-via-then-log-at w ↦ sims_full (ask_grows _) w.if-log-at.true
@@ -77,9 +69,6 @@ side_request-is_leaf-requires t c =
 
 pub side_request-returns-then-is_leaf : goal.side_request-returns-then-is_leaf
 side_request-returns-then-is_leaf t c = side_leaf (direction _) (rw c.is_leaf.ensures at c.if-is_leaf.true)
-
-pub side_request-overflow_add-i-end : goal.side_request-overflow_add-i-end
-side_request-overflow_add-i-end t c = omega (arith, c.min-high.ensures, c.requires.holds.within)
 
 pub side_request-loop-i-init : goal.side_request-loop-i-init
 side_request-loop-i-init t c = (omega arith, omega arith, refl, refl, (λ z e h. side_none (direction _) _))
