@@ -108,13 +108,11 @@ fn shown(nodes: &[u32], s: Side, window: usize) -> Shown
     }
 }
 
-// A side's literals, from the lists of its node, to a row from `at` on. The table is lent to be changed, since one lifetime
-// has to fit it and the output list here.
-fn append_side(nodes: &mut [u32], r: &mut [u32], at: usize, s: Shown)
+// A side's literals, from the lists of its node, to a row from `at` on.
+fn append_side(nodes: &[u32], r: &mut [u32], at: usize, s: Shown)
     requires room { at + s.len ≤ length r.old }
-    requires sided { (t : List Node) × Sided nodes.old t s }
-    ensures nodes_unchanged { nodes.new ≡ nodes.old }
-    ensures r_after { (t : List Node) → Sided nodes.old t s → r.new ≡ paste r.old at (side_leaves t s.side) s.len }
+    requires sided { (t : List Node) × Sided nodes.now t s }
+    ensures { (t : List Node) → Sided nodes.now t s → r.new ≡ paste r.old at (side_leaves t s.side) s.len }
 {
     let side = s.side;
     let row = rows::row_at(side.node);
@@ -138,11 +136,10 @@ fn put_side(r: &mut [u32], at: usize, s: Shown)
 }
 
 // The row of a join of two sides.
-fn join_row(nodes: &mut [u32], variable: u32, l: Shown, r: Shown) -> [u32; sizes::ROW]
+fn join_row(nodes: &[u32], variable: u32, l: Shown, r: Shown) -> [u32; sizes::ROW]
     requires limits { (variable ≤ most_variable) × (l.len + r.len ≤ width) × (l.window < 4294967296) × (r.window < 4294967296) }
-    requires sided { (t : List Node) × Sided nodes.old t l × Sided nodes.old t r }
-    ensures nodes_unchanged { nodes.new ≡ nodes.old }
-    ensures value { (t : List Node) → Sided nodes.old t l → Sided nodes.old t r
+    requires sided { (t : List Node) × Sided nodes.now t l × Sided nodes.now t r }
+    ensures { (t : List Node) → Sided nodes.now t l → Sided nodes.now t r
         → result ≡ join_numbers variable l (side_leaves t l.side) r (side_leaves t r.side) }
 {
     let mut row = [0u32; sizes::ROW];

@@ -56,7 +56,8 @@ fn push_groups<const N: usize>(log: &mut [u8], at: usize, x: u32) -> usize
 }
 
 // A number of any size. Only one of five groups, which no record has, is written so: the loop is not unrolled, or LLVM would
-// lay its code together with that of four groups, and a play of the script large-38 takes 8% more instructions. How many groups there are is known at the end.
+// lay its code together with that of four groups, and a play of the script large-38 takes 8% more instructions. How many groups
+// there are is known at the end.
 fn push_any(log: &mut [u8], from: usize, x: u32) -> usize
     requires { from + length (encode x) ≤ length log.old }
     ensures value { result ≡ from + length (encode x) }

@@ -12,8 +12,8 @@ copy_from_slice-requires c =
     let is = literals_are d c.row_at-row.ensures c.number_at.ensures.0 c.outputs-outputs.ensures c.is_plain.ensures c.literals-l.ensures in
     simp (length-take, length-drop) (omega (arith, c.requires.room, count_is d, ap length is))
 
-pub returns-clause-r_after : goal.returns-clause-r_after
-returns-clause-r_after c =
+pub returns : goal.returns
+returns c =
     λ t d.
     let is = literals_are d c.row_at-row.ensures c.number_at.ensures.0 c.outputs-outputs.ensures c.is_plain.ensures c.literals-l.ensures in
     put_mid-paste _ _ c.args.r.now c.copy_from_slice.new.self _ c.args.s.len (c.copy_from_slice.ensures.after ∙ is) (omega arith) (count_is d)

@@ -12,9 +12,9 @@ put_side-requires c = (simp length-set (omega arith), small c.requires.sided.1 (
 pub put_side-requires-2 : goal.put_side-requires-2
 put_side-requires-2 c = (omega arith, small c.requires.sided.2 (omega arith))
 
-pub returns-clause-value : goal.returns-clause-value
-returns-clause-value c =
+pub returns : goal.returns
+returns c =
     λ t d f.
     row_made c.args.variable c.args.l c.args.r (side_leaves t c.args.l.side) (side_leaves t c.args.r.side) (count_is d) (count_is f)
-    (c.append_side.ensures.r_after t d) (c.append_side-2.ensures.r_after t (rw c.append_side.ensures.nodes_unchanged f)) c.put_side.ensures
+    (c.append_side.ensures t d) (c.append_side-2.ensures t f) c.put_side.ensures
     c.put_side-2.ensures
