@@ -1,12 +1,18 @@
 -- What every table of a script meets.
-use Rattle.std.specs.Prelude.{◌≡◌, ◌≢◌, List, ◌++◌, ℕ, ◌+◌, ◌*◌, ◌≤◌, ◌<◌, length}
+use Rattle.std.specs.Prelude.{◌≡◌, ◌++◌, ℕ, ◌+◌, ◌*◌, ◌≤◌, ◌<◌, length}
+use mathlib.Core.List.{List, Memᴰ}
+use Rattle.totdb.specs.Below.{leaves_below}
 use Rattle.totdb.specs.Nodes.{Node, leaf, join, node_at, len, side_len, side_leaves}
 use Rattle.totdb.specs.declared.Side.{Side}
 
--- The sides of a join are at two lower nodes, inside their lengths, and its length is the sum of theirs.
+-- No leaf lies below both nodes.
+abbrev pub Separate : List Node → ℕ → ℕ → Type 0
+Separate t n m = (x : ℕ) → Memᴰ x (leaves_below t n) → Memᴰ x (leaves_below t m) → ⊥
+
+-- The sides of a join are at lower nodes with no leaf below both, inside their lengths, and its length is the sum of theirs.
 unfoldable pub Fit : List Node → ℕ → Node → Type 0
 Fit t n (leaf a) = Unit {0}
-Fit t n (join m o l r) = (l.node < n) × (r.node < n) × (l.node ≢ r.node) × (l.offset + side_len t l ≤ len (node_at t l.node))
+Fit t n (join m o l r) = (l.node < n) × (r.node < n) × Separate t l.node r.node × (l.offset + side_len t l ≤ len (node_at t l.node))
     × (r.offset + side_len t r ≤ len (node_at t r.node)) × (length m ≡ side_len t l + side_len t r) × (m ≡ side_leaves t l ++ side_leaves t r)
     × (1 ≤ side_len t l) × (1 ≤ side_len t r)
 

@@ -1,10 +1,11 @@
 -- The player: the questions in their order, one command at a time, and the answer.
 use Rattle.std.specs.Prelude.{None, ◌≡◌, Bool, true, false, ◌&&◌, ◌||◌, not as notb, List, [], ◌∷◌, ◌++◌, ℕ, zero, suc, ◌+◌, ◌-◌, ◌≤◌, leb, ltb, eqb, length, drop, replicate}
-use Rattle.sizes.specs.Sizes.{most_bytes, most_head, most_leaves}
+use Rattle.sizes.specs.Sizes.{most_bytes, most_head, most_leaves, most_joins}
 use Rattle.number.specs.Number.{read_refusal}
 use Rattle.pb.specs.Sum.{variable, neg}
 use Rattle.record.specs.Record.{deletion, bytes, steps, clauses}
-use Rattle.totdb.specs.Nodes.{Node, leaf, node_at, len, joined, known, leaf_count, taken}
+use Rattle.totdb.specs.Below.{share_leaf}
+use Rattle.totdb.specs.Nodes.{Node, leaf, node_at, len, joined, known, leaf_count, join_count}
 use Rattle.totdb.specs.declared.Side.{Side}
 use Rattle.cert.specs.State.{State, start, stored_steps, serve, requests, Head}
 use Rattle.player.specs.Script.{Script, script, headless, read_script}
@@ -30,16 +31,17 @@ unfoldable pub side_fits : List Node → Side → Bool
 unfolding node_at len
 side_fits t s = fits_over s (len (node_at t s.node))
 
--- Questions 6 to 12.
+-- Questions 6 to 12, and 15 of document 02, §5, which is put after 9.
 unfoldable pub questions : Head → List Node → Command → List Question
-unfolding variable neg known taken leaf_count node_at len side_fits
+unfolding variable neg known leaf_count share_leaf join_count node_at len side_fits
 questions h t (Command.Leaf l) =
     ask 6 (ltb (variable l) h.variable)
     ∷ ask 7 (known t l || (notb (known t (neg l)) && ltb (leaf_count t) most_leaves))
     ∷ []
 questions h t (Command.Join l r) =
     ask 8 (ltb l.node (length t) && ltb r.node (length t))
-    ∷ ask 9 (notb (eqb l.node r.node) && notb (taken t l.node) && notb (taken t r.node))
+    ∷ ask 9 (notb (share_leaf t l.node r.node))
+    ∷ ask 15 (ltb (join_count t) most_joins)
     ∷ ask 10 (side_fits t l && side_fits t r)
     ∷ []
 questions h t (Command.Request n v d) =
@@ -72,7 +74,7 @@ delete s = record {
   log = s.log ++ (deletion (stored_steps s.nodes s.stored) ∷ []);
 }
 
--- What a command does that passes questions 6 to 12. A leaf literal seen before makes no new node; a join reserves all its outputs.
+-- What a command does that passes these questions. A leaf literal seen before makes no new node; a join reserves all its outputs.
 unfoldable pub act : Command → State → State
 unfolding known make joined len serve requests delete
 act (Command.Leaf l) s = elim (known s.nodes l) [ true ↦ s | false ↦ make (leaf l) 0 s ]

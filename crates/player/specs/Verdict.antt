@@ -40,14 +40,20 @@ unfoldable pub leaf_literals : List Node → List ℕ
 unfolding own_literal
 leaf_literals t = flat_map own_literal t
 
-unfoldable pub side_nodes : Node → List ℕ
-side_nodes (leaf l) = []
-side_nodes (join ls o l r) = l.node ∷ r.node ∷ []
+-- The leaf of number x lies below the node n: a leaf lies below itself, and below a join what lies below the node of a side of it, through windows
+-- or not (document 02, §5).
+pub data Below (t : List Node) (x : ℕ) : ℕ → Type 0 where
+  itself : {l : ℕ} → x < length t → node_at t x ≡ leaf l → Below t x x
+  through_left : {n o : ℕ} {ls : List ℕ} {l r : Side} → n < length t → node_at t n ≡ join ls o l r → Below t x l.node → Below t x n
+  through_right : {n o : ℕ} {ls : List ℕ} {l r : Side} → n < length t → node_at t n ≡ join ls o l r → Below t x r.node → Below t x n
 
--- The nodes under a join.
-unfoldable pub joined_nodes : List Node → List ℕ
-unfolding side_nodes
-joined_nodes t = flat_map side_nodes t
+unfoldable pub own_join : Node → List Node
+own_join (leaf l) = []
+own_join (join ls o l r) = join ls o l r ∷ []
+
+unfoldable pub joins : List Node → List Node
+unfolding own_join
+joins t = flat_map own_join t
 
 -- ---- a command's questions, where they are answered no
 
@@ -67,9 +73,10 @@ pub data No (h : Head) (capacity : ℕ) (s : State) : Command → ℕ → Type 0
   -- Join, request: does each node exist?
   no_8_join : {l r : Side} → (length s.nodes ≤ l.node) ⊎ (length s.nodes ≤ r.node) → No h capacity s (Join l r) 8
   no_8_request : {n v d : ℕ} → length s.nodes ≤ n → No h capacity s (Requested n v d) 8
-  -- Join: two different nodes, neither under a join?
-  no_9 : {l r : Side} → (l.node ≡ r.node) ⊎ (Memᴰ l.node (joined_nodes s.nodes) ⊎ Memᴰ r.node (joined_nodes s.nodes))
-      → No h capacity s (Join l r) 9
+  -- Join: does no leaf lie below both sides (document 02, §5)?
+  no_9 : {l r : Side} {x : ℕ} → Below s.nodes x l.node → Below s.nodes x r.node → No h capacity s (Join l r) 9
+  -- Join: would it be no more than the 255th (document 02, §5)?
+  no_15 : {l r : Side} → 255 ≤ length (joins s.nodes) → No h capacity s (Join l r) 15
   -- Join: offset below the length, and limit at most the length less offset?
   no_10 : {l r : Side} → OffNode s.nodes l ⊎ OffNode s.nodes r → No h capacity s (Join l r) 10
   -- Request: value 1 to the length?
@@ -81,7 +88,7 @@ pub data No (h : Head) (capacity : ℕ) (s : State) : Command → ℕ → Type 0
 
 -- The order in which they are put.
 unfoldable pub order : List ℕ
-order = 6 ∷ 7 ∷ 8 ∷ 9 ∷ 10 ∷ 11 ∷ 12 ∷ 14 ∷ []
+order = 6 ∷ 7 ∷ 8 ∷ 9 ∷ 15 ∷ 10 ∷ 11 ∷ 12 ∷ 14 ∷ []
 
 -- n is the first of the numbers that P holds of.
 pub data First (P : ℕ → Type 0) : List ℕ → ℕ → Type 0 where
@@ -125,7 +132,7 @@ pub data Verdict (bs : List ℕ) (capacity : ℕ) : ℕ → ℕ → State → Ty
   no_2 : {h : Head} {cs : List Command} {s : State} {rest more : List ℕ} {x : ℕ} → Reached bs capacity h cs s rest → Reads rest (x ∷ []) more
       → (Memᴰ Close cs → ⊥) → 1 ≤ x → x ≤ 4 → ((c : Command) (r : List ℕ) → Reads rest (command_numbers c) r → ⊥)
       → Verdict bs capacity 2 (suc (length cs)) s
-  -- Questions 6 to 12, and 14.
+  -- Questions 6 to 12, 15 and 14.
   no_more : {h : Head} {cs : List Command} {s : State} {rest more : List ℕ} {c : Command} {n : ℕ} → Reached bs capacity h cs s rest
       → (Memᴰ Close cs → ⊥) → Reads rest (command_numbers c) more → First (No h capacity s c) order n → Verdict bs capacity n (suc (length cs)) s
   -- None is answered no.

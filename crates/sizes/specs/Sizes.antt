@@ -64,13 +64,13 @@ abbrev pub nodes_start : ℕ
 nodes_start = 2 * most_leaves
 
 abbrev pub row : ℕ
-row = 78
+row = 79
 
 abbrev pub row_at : ℕ → ℕ
 row_at n = nodes_start + row * n
 
--- In a row: the length; the output of value 1; 1 for a join, 0 for a leaf; 1 if it stands under a join, else 0; the left side; the right
--- side; the leaf list.
+-- In a row: the length; the output of value 1; 1 for a join, 0 for a leaf; the leaves below, a bit for each, in two numbers, the low one first; the
+-- left side; the right side; the leaf list.
 abbrev pub length_column : ℕ
 length_column = 0
 
@@ -80,17 +80,17 @@ first_column = 1
 abbrev pub kind_column : ℕ
 kind_column = 2
 
-abbrev pub taken_column : ℕ
-taken_column = 3
+abbrev pub below_column : ℕ
+below_column = 3
 
 abbrev pub left_column : ℕ
-left_column = 4
+left_column = 5
 
 abbrev pub right_column : ℕ
-right_column = 9
+right_column = 10
 
 abbrev pub list_column : ℕ
-list_column = 14
+list_column = 15
 
 -- Of a side, after node, offset and limit: its length; the place of its window's first steps.
 abbrev pub side_len_column : ℕ
@@ -106,8 +106,8 @@ first_at n = row_at n + first_column
 abbrev pub kind_at : ℕ → ℕ
 kind_at n = row_at n + kind_column
 
-abbrev pub taken_at : ℕ → ℕ
-taken_at n = row_at n + taken_column
+abbrev pub below_at : ℕ → ℕ
+below_at n = row_at n + below_column
 
 abbrev pub left_at : ℕ → ℕ
 left_at n = row_at n + left_column

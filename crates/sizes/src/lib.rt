@@ -1,7 +1,7 @@
 // The limits that the code tests, the sizes of its tables and the places in them, each named once. `specs/Sizes.antt` has them
 // for contracts. Document 01 has fixed tables by node and value in the place of Vec and maps: each is one slice of numbers, rows and
-// lists side by side, and the definitions of `rows` and `define` read it by place. In a row 0 is a leaf, not taken, not stored,
-// nothing held. Nodes go by the numbers that a script gives them.
+// lists side by side, and the definitions of `rows` and `define` read it by place. In a row 0 is a leaf, not stored, nothing
+// held. Nodes go by the numbers that a script gives them.
 #![tactic(auto)]
 
 // ---- limits
@@ -47,23 +47,23 @@ pub const LEAF_NODES: usize = MOST_LEAVES;
 // The place of the first row.
 pub const NODES_START: usize = 2 * MOST_LEAVES;
 
-pub const ROW: usize = 78;
+pub const ROW: usize = 79;
 
-// In a row: the length; the output of value 1; 1 for a join, 0 for a leaf; 1 if it stands under a join, else 0; the left
-// side; the right side; the leaf list.
+// In a row: the length; the output of value 1; 1 for a join, 0 for a leaf; the leaves below, a bit for each, in two numbers, the
+// low one first; the left side; the right side; the leaf list.
 pub const LEN: usize = 0;
 
 pub const FIRST: usize = 1;
 
 pub const KIND: usize = 2;
 
-pub const TAKEN: usize = 3;
+pub const BELOW: usize = 3;
 
-pub const LEFT: usize = 4;
+pub const LEFT: usize = 5;
 
-pub const RIGHT: usize = 9;
+pub const RIGHT: usize = 10;
 
-pub const LIST: usize = 14;
+pub const LIST: usize = 15;
 
 // Of a side: node, offset, limit; its length; the place of its window's first steps.
 pub const SIDE_LEN: usize = 3;

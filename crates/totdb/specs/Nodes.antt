@@ -130,11 +130,7 @@ leaf_count [] = 0
 leaf_count (leaf l ∷ t) = suc (leaf_count t)
 leaf_count (join ls o l r ∷ t) = leaf_count t
 
-unfoldable pub is_over : ℕ → Node → Bool
-is_over n (leaf l) = false
-is_over n (join ls o l r) = eqb l.node n || eqb r.node n
-
--- a node under a join
-unfoldable pub taken : List Node → ℕ → Bool
-unfolding any is_over
-taken t n = any (is_over n) t
+unfoldable pub join_count : List Node → ℕ
+join_count [] = 0
+join_count (leaf l ∷ t) = join_count t
+join_count (join ls o l r ∷ t) = suc (join_count t)
