@@ -1,4 +1,4 @@
--- The numbers of document 01 for the refusals, 0 where there is none.
+-- The numbers of documents 01 and 02 for the refusals, 0 where there is none.
 use Rattle.std.specs.Prelude.{ℕ, Option, Some, None, Result, Ok, Err}
 use Rattle.player.specs.declared.Refusal.{Refusal}
 
@@ -12,11 +12,12 @@ number_of Refusal.NoCommand = 5
 number_of Refusal.LeafVariable = 6
 number_of Refusal.Leaf = 7
 number_of Refusal.NoNode = 8
-number_of Refusal.NodeInUse = 9
+number_of Refusal.SharedLeaf = 9
 number_of Refusal.Window = 10
 number_of Refusal.Value = 11
 number_of Refusal.Direction = 12
 number_of Refusal.LogFull = 14
+number_of Refusal.TooManyJoins = 15
 
 abbrev pub number_or_none : Option Refusal → ℕ
 number_or_none (Some r) = number_of r

@@ -28,8 +28,8 @@ pub enum Refusal {
     // the leaf's negation is a leaf, or there are as many leaves as there may be
     Leaf,
     NoNode,
-    // a join of a node with itself, or of a node that is under a join
-    NodeInUse,
+    // a leaf lies below both sides of the join
+    SharedLeaf,
     // the window is not within the node
     Window,
     // the node has no such value
@@ -37,6 +37,8 @@ pub enum Refusal {
     Direction,
     // what the command writes does not fit in the log
     LogFull,
+    // there are as many joins as there may be
+    TooManyJoins,
 }
 
 impl Refusal {
@@ -53,11 +55,12 @@ impl Refusal {
             Refusal::LeafVariable => 6,
             Refusal::Leaf => 7,
             Refusal::NoNode => 8,
-            Refusal::NodeInUse => 9,
+            Refusal::SharedLeaf => 9,
             Refusal::Window => 10,
             Refusal::Value => 11,
             Refusal::Direction => 12,
             Refusal::LogFull => 14,
+            Refusal::TooManyJoins => 15,
         }
     }
 }
