@@ -14,6 +14,7 @@ use Rattle.totdb.specs.declared.Side.{Side}
 use Rattle.cert.specs.Definitions.{Direction, if, only_if}
 use Rattle.cert.specs.Requests.{splits, positive, within, named, Request, request, needs, needs_at, below, neg_part, pos_part, clauses_of, clauses_at, if_clause, only_if_clause, Clause, literals_of, Right}
 use Rattle.cert.specs.Sized.{Fit, Sized, Numbered}
+use Rattle.cert.proofs.LeavesBelow.{separate_differ}
 use Rattle.cert.proofs.Rules.{Ok, Below, needs_cases}
 
 pub range_mem : (s n a : ℕ) → Memᴰ a (range s n) → (s ≤ a) × (a < s + n)
@@ -99,6 +100,20 @@ named_has only_if v p q zero h k i j = absurd (omega arith)
 named_has only_if v p q (suc a) h k i j =
     within_has p (map suc (splits (v - 1) p q)) (suc a) k
     (Memᴰ.map suc (splits_has (v - 1) p q a (omega arith) (omega arith) (omega arith)))
+
+-- A table whose joins fit is well made.
+pub sized_ok : (t : List Node) → Sized t → Ok t
+unfolding Sized Ok Fit Below
+sized_ok t sz n h = go (node_at t n) (sz n h)
+  where
+    go : (a : Node) → Fit t n a → Below n a
+    go (leaf a) f = tt
+    go (join m o l r) f = (f.0, f.1)
+
+pub fit_at : (t : List Node) → Sized t → (n : ℕ) (ls : List ℕ) (o : ℕ) (l r : Side) → n < length t → node_at t n ≡ join ls o l r
+    → Fit t n (join ls o l r)
+unfolding Sized
+fit_at t sz n ls o l r h e = subst (Fit t n) e (sz n h)
 
 -- No two outputs have one literal.
 unfoldable pub Apart : List Node → Type 0
@@ -238,7 +253,7 @@ pos_part-out t s i h = step (dec_le i (side_len t s))
     step (yes k) = absurd (omega arith)
     step (no k) = refl
 
-module _ (t : List Node) (apart : Apart t) (m : List ℕ) (o : ℕ) (l r : Side) (fit : Fit t (length t) (join m o l r)) where
+module _ (t : List Node) (ok : Ok t) (apart : Apart t) (m : List ℕ) (o : ℕ) (l r : Side) (fit : Fit t (length t) (join m o l r)) where
   left_inj : (i j : ℕ) → 1 ≤ i → i ≤ side_len t l → 1 ≤ j → j ≤ side_len t l → side_lit t l i ≡ side_lit t l j → i ≡ j
   unfolding Apart Fit side_lit
   left_inj i j hi ki hj kj e =
@@ -251,7 +266,7 @@ module _ (t : List Node) (apart : Apart t) (m : List ℕ) (o : ℕ) (l r : Side)
   sides_apart : (i j : ℕ) → 1 ≤ i → i ≤ side_len t l → 1 ≤ j → j ≤ side_len t r → side_lit t l i ≡ side_lit t r j → ⊥
   unfolding Apart Fit side_lit
   sides_apart i j hi ki hj kj e =
-      fit.2 (apart l.node r.node (l.offset + i) (r.offset + j) fit.0 fit.1 (omega arith) (omega (arith, fit.3)) (omega arith)
+      separate_differ t ok l.node r.node fit.0 fit.2 (apart l.node r.node (l.offset + i) (r.offset + j) fit.0 fit.1 (omega arith) (omega (arith, fit.3)) (omega arith)
       (omega (arith, fit.4)) e).0
 
   if_inj : (v z a b : ℕ) → 1 ≤ v → Memᴰ a (splits v (side_len t l) (side_len t r)) → Memᴰ b (splits v (side_len t l) (side_len t r))
@@ -314,12 +329,12 @@ group_once t sz apart (request n v d) x = rw group_is (go (node_at t n) d (sz n 
         let fit : Fit t (length t) (join m o l r) = (omega arith, omega arith, f.2, f.3, f.4, f.5, f.6, f.7, f.8) in
         nodup_map {B = List ℕ} (λ (a : ℕ). neg_part t l a ++ neg_part t r (v - a) ++ (output (join m o l r) v ∷ []))
         (splits v (side_len t l) (side_len t r)) (splits_once v (side_len t l) (side_len t r))
-        (λ a b i j e. if_inj t apart m o l r fit v (output (join m o l r) v) a b x.1 i j e)
+        (λ a b i j e. if_inj t (sized_ok t sz) apart m o l r fit v (output (join m o l r) v) a b x.1 i j e)
     go (join m o l r) only_if f h =
         let fit : Fit t (length t) (join m o l r) = (omega arith, omega arith, f.2, f.3, f.4, f.5, f.6, f.7, f.8) in
         nodup_map {B = List ℕ} (λ (a : ℕ). pos_part t l (suc a) ++ pos_part t r (suc (v - 1 - a)) ++ (neg (output (join m o l r) v) ∷ []))
         (splits (v - 1) (side_len t l) (side_len t r)) (splits_once (v - 1) (side_len t l) (side_len t r))
-        (λ a b i j e. only_inj t apart m o l r fit v (neg (output (join m o l r) v)) a b x.1 h i j e)
+        (λ a b i j e. only_inj t (sized_ok t sz) apart m o l r fit v (neg (output (join m o l r) v)) a b x.1 h i j e)
 
 pub numbered_apart : (start : ℕ) (t : List Node) → Numbered start t → Apart t
 unfolding Apart len output
@@ -338,12 +353,3 @@ numbered_apart start t law n k i j hn hk i₁ i₂ j₁ j₂ e = go (node_at t n
             let z : n ≡ k = omega arith in
             let c : o ≡ o' = cc in
             (z, omega arith)
-
--- A table whose joins fit is well made.
-pub sized_ok : (t : List Node) → Sized t → Ok t
-unfolding Sized Ok Fit Below
-sized_ok t sz n h = go (node_at t n) (sz n h)
-  where
-    go : (a : Node) → Fit t n a → Below n a
-    go (leaf a) f = tt
-    go (join m o l r) f = (f.0, f.1)

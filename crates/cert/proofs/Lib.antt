@@ -7,6 +7,7 @@ pub mod WindowDerivations
 pub mod ClauseDerivations
 pub mod Keyed
 pub mod Rules
+pub mod LeavesBelow
 pub mod Apart
 pub mod Pulls
 pub mod Tables

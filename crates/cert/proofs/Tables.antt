@@ -1,19 +1,19 @@
 -- The tables that leaf and join commands make: each accepted one keeps the sides in place and the literals apart.
 use Rattle.std.proofs.lemmas.List.Recursion.{or_push}
 use mathlib.Core.Path.{◌≡◌, refl, sym, ◌∙◌}
-use mathlib.Core.Bool.{Bool, true, ◌||◌}
-use mathlib.Core.Logic.{◌≢◌, ◌⊎◌, inl, inr, ⊎_elim}
+use mathlib.Core.Bool.{Bool, ◌||◌}
+use mathlib.Core.Logic.{◌⊎◌, inl, inr, ⊎_elim}
 use mathlib.Core.List.{List, [], ◌∷◌, ◌++◌}
 use Prim.Native.Nat.{ℕ, zero, suc, ◌+◌, ◌-◌, ◌*◌, ◌≤◌, ◌<◌}
 use native.Mathlib.Decide.{dec_lt}
 use native.Mathlib.Omega.{arith}
-use borrow.Author.Tests.{eq-eqb, ne_eqb}
 use lib.ListN.{length, length-append}
 use lib.Seq.{get_or-append_seam}
-use Rattle.totdb.specs.Nodes.{Node, node_at, leaf, join, len, limited, side_len, any, is_over, taken}
+use Rattle.totdb.specs.Nodes.{Node, node_at, leaf, join, len, limited, side_len, any}
 use Rattle.totdb.specs.declared.Side.{Side}
 use Rattle.cert.specs.Requests.{Request, request, Right}
 use Rattle.cert.specs.Sized.{Fit, Sized, Numbered}
+use Rattle.cert.proofs.LeavesBelow.{below_more, leaf_join}
 use Rattle.cert.proofs.Rules.{at_more, side_len-more, side_leaves-more}
 
 -- The last node of a table, or one before it.
@@ -45,6 +45,8 @@ fit_more t u n (join m o l r) h f =
       ← at_more t u r.node hr,
       ← side_leaves-more t u l hl,
       ← side_leaves-more t u r hr,
+      ← below_more t u l.node hl,
+      ← below_more t u r.node hr,
     ) f
 
 pub sized_nil : Sized []
@@ -74,9 +76,6 @@ old_or_new t a n b h e = step (dec_lt n (length t))
     step (yes k) = inl (k, at_more t (a ∷ []) n k ∙ e)
     step (no k) = let z : n ≡ length t = omega (arith, length_snoc t a) in inr (z, sym (at_last t a) ∙ (rw z at e))
 
-leaf≢join : {a : ℕ} {m : List ℕ} {o : ℕ} {l r : Side} → leaf a ≡ join m o l r → ⊥
-leaf≢join p = let z : ◌≡◌ {A = ℕ} 0 1 = cc in omega arith
-
 module _ (start : ℕ) (t : List Node) (law : Numbered start t) where
   pub numbered_leaf : (c : ℕ) → c < 2 * start → ((n : ℕ) → n < length t → node_at t n ≡ leaf c → ⊥) → Numbered start (t ++ (leaf c ∷ []))
   numbered_leaf c low new = record {
@@ -85,10 +84,10 @@ module _ (start : ℕ) (t : List Node) (law : Numbered start t) where
     leaf_once = λ n k a h g p q. ⊎_elim
         (λ i. ⊎_elim (λ j. law.leaf_once n k a i.0 j.0 i.1 j.1) (λ j. absurd (new n i.0 (i.1 ∙ sym j.1))) (split k (leaf a) g q))
         (λ i. ⊎_elim (λ j. absurd (new k j.0 (j.1 ∙ sym i.1))) (λ j. i.0 ∙ sym j.0) (split k (leaf a) g q)) (split n (leaf a) h p);
-    join_high = λ n m o l r h e. ⊎_elim (λ i. law.join_high n m o l r i.0 i.1) (λ i. absurd (leaf≢join i.1)) (split n (join m o l r) h e);
+    join_high = λ n m o l r h e. ⊎_elim (λ i. law.join_high n m o l r i.0 i.1) (λ i. absurd (leaf_join i.1)) (split n (join m o l r) h e);
     join_next = λ n k m o m' o' l r l' r' h g p q. ⊎_elim
         (λ j. law.join_next n k m o m' o' l r l' r' h j.0
-        (⊎_elim (λ i. i.1) (λ i. absurd (leaf≢join i.1)) (split n (join m o l r) (omega arith) p)) j.1) (λ j. absurd (leaf≢join j.1))
+        (⊎_elim (λ i. i.1) (λ i. absurd (leaf_join i.1)) (split n (join m o l r) (omega arith) p)) j.1) (λ j. absurd (leaf_join j.1))
         (split k (join m' o' l' r') g q);
   }
     where
@@ -100,10 +99,10 @@ module _ (start : ℕ) (t : List Node) (law : Numbered start t) where
       → ((n : ℕ) (m : List ℕ) (o : ℕ) (l r : Side) → n < length t → node_at t n ≡ join m o l r → o + length m ≤ d)
       → Numbered start (t ++ (join c d f g ∷ []))
   numbered_join c d f g high after = record {
-    leaf_low = λ n a h e. ⊎_elim (λ i. law.leaf_low n a i.0 i.1) (λ i. absurd (leaf≢join (sym i.1))) (split n (leaf a) h e);
+    leaf_low = λ n a h e. ⊎_elim (λ i. law.leaf_low n a i.0 i.1) (λ i. absurd (leaf_join (sym i.1))) (split n (leaf a) h e);
     leaf_once = λ n k a h j p q. ⊎_elim
-        (λ x. ⊎_elim (λ y. law.leaf_once n k a x.0 y.0 x.1 y.1) (λ y. absurd (leaf≢join (sym y.1))) (split k (leaf a) j q))
-        (λ x. absurd (leaf≢join (sym x.1))) (split n (leaf a) h p);
+        (λ x. ⊎_elim (λ y. law.leaf_once n k a x.0 y.0 x.1 y.1) (λ y. absurd (leaf_join (sym y.1))) (split k (leaf a) j q))
+        (λ x. absurd (leaf_join (sym x.1))) (split n (leaf a) h p);
     join_high = λ n m o l r h e. ⊎_elim (λ i. law.join_high n m o l r i.0 i.1) (λ i. let p = i.1 in let q : d ≡ o = cc in omega arith)
         (split n (join m o l r) h e);
     join_next = λ n k m o m' o' l r l' r' h j p q.
@@ -132,20 +131,7 @@ side_some t s h = by s.limit
     by zero = unfold limited in omega arith
     by (suc k) = unfold limited in omega arith
 
--- ---- nodes under a join
-
+-- A test of a table, with one node more.
 pub any_snoc : (f : Node → Bool) (t : List Node) (a : Node) → any f (t ++ (a ∷ [])) ≡ (any f t || f a)
 unfolding any
 any_snoc f t a = or_push (any f) f refl (λ x xs. refl) t a
-
-pub taken_snoc : (t : List Node) (a : Node) (n : ℕ) → taken (t ++ (a ∷ [])) n ≡ (taken t n || is_over n a)
-unfolding taken
-taken_snoc t a n = any_snoc (is_over n) t a
-
-pub over_left : (ls : List ℕ) (o : ℕ) (l r : Side) → is_over l.node (join ls o l r) ≡ true
-unfolding is_over
-over_left ls o l r = rw (eq-eqb l.node l.node refl)
-
-pub over_right : (ls : List ℕ) (o : ℕ) (l r : Side) → l.node ≢ r.node → is_over r.node (join ls o l r) ≡ true
-unfolding is_over
-over_right ls o l r h = rw (ne_eqb l.node r.node h, eq-eqb r.node r.node refl)
