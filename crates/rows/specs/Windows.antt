@@ -17,6 +17,13 @@ IsWindow s = plain_or s.offset s.limit true false ≡ false
 unfoldable pub shows : List Node → ℕ → ℕ → ℕ → Side → Bool
 shows t n f m s = eqb s.node n && eqb s.offset f && eqb (side_len t s) m
 
+-- A side that shows them, with w as the place for its window.
+pub record Showing (t : List Node) (n f m w : ℕ) : Type 0 where
+  pub row : ℕ
+  pub side : Side
+  pub of : SideAt t row w side
+  pub is : shows t n f m side ≡ true
+
 -- Of the nodes of the second list, numbered from i up, the first side that shows these outputs: where its first steps would stand. 0 where none does.
 unfoldable pub window_from : List Node → ℕ → ℕ → ℕ → List Node → ℕ → ℕ
 unfolding shows
