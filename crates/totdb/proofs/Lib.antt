@@ -3,3 +3,5 @@ pub mod Sides
 pub mod Listed
 pub mod Leaves
 pub mod Meet
+pub mod Masks
+pub mod BelowCases
