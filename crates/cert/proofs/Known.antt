@@ -24,7 +24,7 @@ use Rattle.cert.specs.Equal.{key_dec}
 use Rattle.cert.specs.State.{Stored, from_in, State, keys, step_in, define, Head}
 use Rattle.cert.proofs.Apart.{range_mem}
 use Rattle.cert.proofs.Counts.{steps_append}
-use Rattle.cert.proofs.Distinct.{Different, different_apart, outputs_different, output_inj, Distinct, off_units, own_apart}
+use Rattle.cert.proofs.Distinct.{Different, different_apart, outputs_different, output_inj, Distinct, off_units}
 use Rattle.cert.proofs.Fits.{KeyFits}
 use Rattle.cert.proofs.Totalizer.{real_if_sum, real_only_if_sum}
 use Rattle.cert.proofs.Pulls.{pulls_real}
@@ -246,7 +246,7 @@ module _ (h : Head) (t : List Node) (d : Distinct t) (s : State) (k : KnownIn h 
   window_off n f m hn fits more v a b =
       let j = long_join (node_at t n) (omega arith) in
       off_units (variable (output (node_at t n) v)) (leaves (node_at t n))
-      (λ l i e. own_apart t d n l v j.0 j.1 j.2 j.3 hn j.4 i (omega arith) (omega arith) (sym e))
+      (λ l i e. d.own n l v j.0 j.1 j.2 j.3 hn j.4 i (omega arith) (omega arith) (sym e))
 
   pulled : (n f m : ℕ) → ((j : Key) → Memᴰ j (pulls (window n f m)) → Memᴰ j (keys s)) → (v : ℕ) → f < v → v ≤ f + m
       → Memᴰ (real n v) (keys s)

@@ -5,6 +5,7 @@ use Prim.Native.Nat.{zero, suc}
 use native.Mathlib.Decide.{dec_le, ℕ_discrete}
 use native.Mathlib.Omega.{arith}
 use Rattle.totdb.specs.Nodes.{node_at, leaves, len, output, outputs, range, limited, side_len, side_leaves, side_outputs, plain_or}
+use Rattle.totdb.specs.Below.{share_leaf}
 use Rattle.cert.specs.Definitions.{Direction, if, only_if, Key, real, window_zero, window, window_def, long_def, side_def, pulls}
 use Rattle.cert.specs.Lookups.{side_keys, lookup_keys, used_at, used_by, keys_of}
 use Rattle.cert.specs.Requests.{Request, request, splits, Lookup, of_node, Clause, if_clause, clauses_at, clauses_of, definition, key_of, looked_up, looks_of, lookups, Right}
@@ -12,6 +13,7 @@ use Rattle.cert.specs.Totalizer.{literal_at, opposite, complement, simplify, C1,
 use Rattle.cert.proofs.Answers.{table}
 use Rattle.cert.proofs.Available.{Available, clause_available, pulled_available}
 use Rattle.cert.specs.Sized.{Fit, Sized}
+use Rattle.cert.proofs.LeavesBelow.{share_no}
 use Rattle.cert.proofs.Lookups.{Covers, lookups_are}
 use Rattle.cert.proofs.SchemaCases.{side}
 
@@ -46,17 +48,17 @@ worked = (refl, refl)
 
 -- a table and a request that meet the hypotheses of `lookups_are`
 table_sized : Sized table
-unfolding Sized Fit table node_at leaves len limited side_len side_leaves side_outputs outputs output range plain_or
+unfolding Sized Fit table node_at leaves len limited side_len side_leaves side_outputs outputs output range plain_or share_leaf
 table_sized zero h = tt
 table_sized (suc zero) h = tt
 table_sized (suc (suc zero)) h = tt
 table_sized (suc (suc (suc zero))) h = tt
 table_sized (suc (suc (suc (suc zero)))) h =
-    (omega arith, omega arith, λ e. omega arith, omega arith, omega arith, refl, refl, omega arith, omega arith)
+    (omega arith, omega arith, share_no table 0 1 refl, omega arith, omega arith, refl, refl, omega arith, omega arith)
 table_sized (suc (suc (suc (suc (suc zero))))) h =
-    (omega arith, omega arith, λ e. omega arith, omega arith, omega arith, refl, refl, omega arith, omega arith)
+    (omega arith, omega arith, share_no table 4 2 refl, omega arith, omega arith, refl, refl, omega arith, omega arith)
 table_sized (suc (suc (suc (suc (suc (suc zero)))))) h =
-    (omega arith, omega arith, λ e. omega arith, omega arith, omega arith, refl, refl, omega arith, omega arith)
+    (omega arith, omega arith, share_no table 5 3 refl, omega arith, omega arith, refl, refl, omega arith, omega arith)
 table_sized (suc (suc (suc (suc (suc (suc (suc n))))))) h = absurd (omega arith)
 
 pub met_lookups : Covers (lookups table (request 6 2 if)) (keys_of table (request 6 2 if))

@@ -16,7 +16,7 @@ use Rattle.cert.specs.Sized.{Fit, Sized}
 use Rattle.cert.specs.State.{State, keys, step_in, Head}
 use Rattle.cert.proofs.Available.{Available, side_if_from, side_only_if_to}
 use Rattle.cert.proofs.ClauseDerivations.{Stands}
-use Rattle.cert.proofs.Distinct.{Distinct, off_units, own_apart}
+use Rattle.cert.proofs.Distinct.{Distinct, off_units}
 use Rattle.cert.proofs.Keyed.{KeyOf, by_form, real_key, window_key}
 use Rattle.cert.proofs.Known.{KnownIn, long_join, known_of}
 use Rattle.cert.proofs.Pulls.{pulls_zero}
@@ -49,7 +49,7 @@ module _ (h : Head) (t : List Node) (sz : Sized t) (d : Distinct t) (s : State) 
       → Off (variable (output (node_at t n) v)) (units (leaves (node_at t n)))
   node_off n hn more v a b =
       let j = long_join (node_at t n) more in
-      off_units (variable (output (node_at t n) v)) (leaves (node_at t n)) (λ l i e. own_apart t d n l v j.0 j.1 j.2 j.3 hn j.4 i a b (sym e))
+      off_units (variable (output (node_at t n) v)) (leaves (node_at t n)) (λ l i e. d.own n l v j.0 j.1 j.2 j.3 hn j.4 i a b (sym e))
 
   zero_stored : (n f m : ℕ) → Memᴰ (window n f m) (keys s) → Memᴰ (window_zero n f m) (keys s)
   zero_stored n f m i = closed (window n f m) (window_zero n f m) i (pulls_zero n f m)
