@@ -1,17 +1,17 @@
 -- What the code reads of a node, and of a side.
 use mathlib.Core.Path.{◌≡◌, refl, sym, ap, subst, ◌∙◌}
 use mathlib.Core.List.{List, [], ◌∷◌}
-use Prim.Native.Nat.{ℕ, zero, suc, ◌+◌, ◌≤◌, ◌<◌}
+use Prim.Native.Nat.{ℕ, zero, suc, ◌+◌, ◌*◌, ◌^◌, ◌≤◌, ◌<◌}
 use native.Mathlib.Omega.{arith}
 use lib.ListN.{length, get_or, take, drop}
 use lib.Seq.{get_or-take, get_or-drop, take-take, drop-drop}
-use Rattle.sizes.specs.Sizes.{most_nodes, width, row, row_at, length_column, first_column, left_column, right_column, list_column, side_len_column, side_window_column, first_at, left_at, right_at, list_at, left_window, right_window}
+use Rattle.sizes.specs.Sizes.{most_nodes, width, row, row_at, length_column, first_column, below_column, left_column, right_column, list_column, side_len_column, side_window_column, first_at, below_at, left_at, right_at, list_at, left_window, right_window}
+use Rattle.totdb.specs.Below.{leaves_below, mask}
 use Rattle.totdb.specs.Nodes.{Node, leaf, join, node_at, leaves, len, output, from_first, side_len}
 use Rattle.totdb.specs.declared.Side.{Side}
-use Rattle.rows.specs.Windows.{SideAt, at_left, at_right}
+use Rattle.rows.specs.Windows.{SideAt, at_left, at_right, IsWindow, window_at}
 use Rattle.rows.specs.Rows.{row_of, read_side, SideRow, KindOf, Table, read_shown, ShownOf, SidePlace, JoinPlace, JoinOf, read_join}
-use Rattle.rows.specs.declared.Shown.{Shown}
-use Rattle.rows.proofs.Sides.{side_inside, window_own}
+use Rattle.rows.proofs.Sides.{side_inside}
 
 -- A number of a row.
 pub in_row : (ns : List ℕ) (n j : ℕ) → j < row → get_or ns (row_at n + j) 0 ≡ get_or (row_of ns n) j 0
@@ -39,6 +39,11 @@ module _ {ns : List ℕ} {t : List Node} (tb : Table ns t) (n : ℕ) (h : n < le
       ∙ sym (part_take list_column (len (node_at t n)) row (drop (row_at n) ns) (omega (arith, row_there.2)))
       ∙ (tb.has.row n h).list
 
+  pub below_is : get_or ns (below_at n) 0 + 2 ^ 32 * get_or ns (below_at n + 1) 0 ≡ mask (leaves_below t n)
+  below_is =
+      let e : below_at n + 1 ≡ row_at n + (below_column + 1) = omega arith in
+      rw (in_row ns n below_column (omega arith), e, in_row ns n (below_column + 1) (omega arith)) (tb.has.row n h).below
+
 -- The outputs of a node, from its first.
 pub from_first_lem : (x : Node) (v : ℕ) → 1 ≤ v → v ≤ len x → output x v ≡ from_first (output x 1) v
 unfolding len leaves output from_first
@@ -59,13 +64,13 @@ module _ {ns : List ℕ} {t : List Node} (tb : Table ns t) where
         rw (c, in_row ns n (q + side_len_column) (omega arith)) r.length,
       )
 
-  side_window : (n q : ℕ) (s : Side) → q + side_window_column < row → SideRow (row_of ns n) t q s
-      → get_or ns (row_at n + q + side_window_column) 0 ≡ Rattle.rows.specs.Windows.window_at t s.node s.offset (side_len t s)
-  side_window n q s h r =
+  side_window : (n q : ℕ) (s : Side) → q + side_window_column < row → SideRow (row_of ns n) t q s → IsWindow s
+      → get_or ns (row_at n + q + side_window_column) 0 ≡ window_at t s.node s.offset (side_len t s)
+  side_window n q s h r is =
       let d : row_at n + q + side_window_column ≡ row_at n + (q + side_window_column) = omega arith in
-      rw (d, in_row ns n (q + side_window_column) (omega arith)) r.window
+      rw (d, in_row ns n (q + side_window_column) (omega arith)) (r.window is)
 
-  numbers : {p w : ℕ} {s : Side} → SideAt t p w s → (read_side ns p ≡ s) × (get_or ns (p + side_len_column) 0 ≡ side_len t s)
+  pub numbers : {p w : ℕ} {s : Side} → SideAt t p w s → (read_side ns p ≡ s) × (get_or ns (p + side_len_column) 0 ≡ side_len t s)
   unfolding KindOf
   numbers (at_left n ls o l r h e) =
       let k : KindOf (row_of ns n) t (join ls o l r) = subst (KindOf (row_of ns n) t) e (tb.has.row n h).kind in
@@ -74,14 +79,15 @@ module _ {ns : List ℕ} {t : List Node} (tb : Table ns t) where
       let k : KindOf (row_of ns n) t (join ls o l r) = subst (KindOf (row_of ns n) t) e (tb.has.row n h).kind in
       side_row n right_column r (omega arith) k.2
 
-  place_is : {p w : ℕ} {s : Side} → SideAt t p w s → get_or ns (p + side_window_column) 0 ≡ w
+  place_is : {p w : ℕ} {s : Side} → SideAt t p w s → IsWindow s
+      → get_or ns (p + side_window_column) 0 ≡ window_at t s.node s.offset (side_len t s)
   unfolding KindOf
   place_is (at_left n ls o l r h e) =
       let k : KindOf (row_of ns n) t (join ls o l r) = subst (KindOf (row_of ns n) t) e (tb.has.row n h).kind in
-      side_window n left_column l (omega arith) k.1 ∙ window_own tb.bounded (at_left n ls o l r h e)
+      side_window n left_column l (omega arith) k.1
   place_is (at_right n ls o l r h e) =
       let k : KindOf (row_of ns n) t (join ls o l r) = subst (KindOf (row_of ns n) t) e (tb.has.row n h).kind in
-      side_window n right_column r (omega arith) k.2 ∙ window_own tb.bounded (at_right n ls o l r h e)
+      side_window n right_column r (omega arith) k.2
 
   inside : {p w : ℕ} {s : Side} → SideAt t p w s → p + side_window_column < length ns
   inside (at_left n ls o l r h e) = omega (arith, (row_there tb n h).0)
@@ -91,25 +97,22 @@ module _ {ns : List ℕ} {t : List Node} (tb : Table ns t) where
     node_is : get_or ns p 0 ≡ s.node
     node_is = ap (λ (u : Side). u.node) (numbers of).0
 
-    -- All that is read of a side.
-    pub shown_is : read_shown ns p ≡ record { side = s; len = side_len t s; first = output (node_at t s.node) 1; window = w }
-    shown_is =
-        rw (
-          (numbers of).0,
-          (numbers of).1,
-          node_is,
-          first_is tb s.node (side_inside tb.bounded of).0,
-          place_is of,
-        )
-
     pub side_place : SidePlace ns p
     side_place = record {
       there = inside of;
       below = rw node_is (omega (arith, (row_there tb s.node (side_inside tb.bounded of).0).0));
     }
 
+    -- All that is read of a side.
     pub shown_of : ShownOf t (read_shown ns p)
-    shown_of = rw shown_is (record { row = p; of = of; length = refl; first = refl })
+    shown_of = rw (numbers of).0 (record {
+      row = p;
+      slot = w;
+      of = of;
+      length = (numbers of).1;
+      first = rw node_is (first_is tb s.node (side_inside tb.bounded of).0);
+      window = place_is of;
+    })
 
 -- ---- joins
 
@@ -129,15 +132,12 @@ module _ {ns : List ℕ} {t : List Node} (tb : Table ns t) (n : ℕ) (h : n < le
   }
 
   pub join_of_row : JoinOf t (read_join ns n)
-  join_of_row =
-      let a = ap (λ (s : Shown). s.side) (shown_is tb left_of) in
-      let b = ap (λ (s : Shown). s.side) (shown_is tb right_of) in
-      record {
-        there = h;
-        leaf_list = ls;
-        variable = o;
-        is = rw (a, b) e;
-        first = first_is tb n h;
-        left = shown_of tb left_of;
-        right = shown_of tb right_of;
-      }
+  join_of_row = record {
+    there = h;
+    leaf_list = ls;
+    variable = o;
+    is = rw ((numbers tb left_of).0, (numbers tb right_of).0) e;
+    first = first_is tb n h;
+    left = shown_of tb left_of;
+    right = shown_of tb right_of;
+  }

@@ -1,9 +1,11 @@
 // The table of the nodes, read. `specs/Rows.antt` says what its numbers stand for.
 #![tactic(auto)]
 
-ghost use Rattle.std.specs.Prelude.{◌≡◌, ◌+◌, ◌<◌, length, get_or};
+ghost use Rattle.std.specs.Prelude.{◌≡◌, List, ◌+◌, ◌<◌, length, get_or};
 ghost use Rattle.sizes.specs.Sizes.{row_at};
-ghost use Rattle.rows.specs.Rows.{read_shown, read_join, SidePlace, JoinPlace};
+ghost use Rattle.totdb.specs.Below.{leaves_below, mask};
+ghost use Rattle.totdb.specs.Nodes.{Node};
+ghost use Rattle.rows.specs.Rows.{Table, read_shown, read_join, SidePlace, JoinPlace};
 
 use totdb::Side;
 
@@ -40,6 +42,16 @@ pub fn row_at(node: usize) -> usize
     ensures { result ≡ row_at node }
 {
     sizes::NODES_START + sizes::ROW * node
+}
+
+// The leaves below a node, a bit for each.
+#[tactic(auto, using(crate::proofs::Reading::below_is))]
+pub fn below_at(nodes: &[u32], node: usize) -> u64
+    requires { (t : List Node) × Table nodes.now t × (node < length t) }
+    ensures { (t : List Node) → Table nodes.now t → node < length t → result ≡ mask (leaves_below t node) }
+{
+    let at = row_at(node) + sizes::BELOW;
+    nodes[at] as u64 + 4294967296 * nodes[at + 1] as u64
 }
 
 // The side whose five numbers stand at `at`.
