@@ -23,12 +23,13 @@ use Rattle.cert.specs.Definitions.{Key, Definition, if, only_if, Direction, real
 use Rattle.cert.specs.Requests.{Request, request, Lookup, of_node, Clause, if_clause, only_if_clause, clauses_of, splits, definition, key_of, looked_up, looks_of, def_tokens, clause_tokens, Right}
 use Rattle.cert.specs.Sized.{Fit, Sized}
 use Rattle.cert.specs.State.{State, keys, step_in, define, write, hold, serve, start, requests, Head, stored_steps}
-use Rattle.cert.proofs.Apart.{splits_mem}
+use Rattle.cert.proofs.Apart.{splits_mem, sized_ok}
 use Rattle.cert.proofs.Available.{Available, node_if_from, node_only_if_to, clause_available}
 use Rattle.cert.proofs.ClauseDerivations.{if_evaluates, only_if_evaluates, if_literals, only_literals}
 use Rattle.cert.proofs.Distinct.{Different, Distinct, LeftApart, different_apart, off_units}
 use Rattle.cert.proofs.Fits.{KeyFits, request_falls, key_falls, looked_fit}
 use Rattle.cert.proofs.Known.{KnownIn, known_of, known_define, known_more, real_ready}
+use Rattle.cert.proofs.LeavesBelow.{separate_differ}
 use Rattle.cert.proofs.Rules.{ClauseForm, an_if, an_only_if, clause_form}
 use Rattle.cert.proofs.Serving.{define_keys, key_no_clauses, Asked, serve_keeps}
 use Rattle.cert.proofs.SideTokens.{node_off, side_only, side_if}
@@ -131,7 +132,8 @@ module _ (h : Head) (t : List Node) (sz : Sized t) (d : Distinct t) (s : State) 
     left_right : (a b : ℕ) → 1 ≤ a → a ≤ side_len t l → 1 ≤ b → b ≤ side_len t r → variable (side_lit t l a) ≢ variable (side_lit t r b)
     unfolding side_lit Fit
     left_right a b x y z w =
-        d.outputs l.node r.node (l.offset + a) (r.offset + b) (omega (arith, fit.0)) (omega (arith, fit.1)) fit.2
+        d.outputs l.node r.node (l.offset + a) (r.offset + b) (omega (arith, fit.0)) (omega (arith, fit.1))
+        (separate_differ t (sized_ok t sz) l.node r.node (omega (arith, fit.0)) fit.2)
         (omega arith) (omega (arith, fit.3)) (omega arith) (omega (arith, fit.4))
 
     -- A left literal is over no variable that the right side hands on.

@@ -30,7 +30,7 @@ use Rattle.cert.proofs.Fits.{KeyFits, request_falls, key_falls, looked_fit}
 use Rattle.cert.proofs.Keyed.{by_form, key_most}
 use Rattle.cert.proofs.Rules.{ClauseForm, an_if, an_only_if, clause_form}
 use Rattle.cert.proofs.Serving.{serve_keeps, Asked}
-use Rattle.player.specs.Formed.{Sound, Treed}
+use Rattle.player.specs.Formed.{Sound, Limits}
 use Rattle.player.specs.Passes.{AllPassed, all_done, all_more}
 use Rattle.player.specs.Player.{make, delete, first_no, questions, act, head_fits}
 use Rattle.player.specs.declared.Command.{Command}
@@ -38,7 +38,7 @@ use Rattle.player.proofs.Counts.{counted_act, all_keep}
 use Rattle.player.proofs.Formed.{head_low}
 use Rattle.player.proofs.Plays.{start_empty}
 use Rattle.player.proofs.Sound.{request_fits, requests_asked, serve_nodes, requests_right, sound_start}
-use Rattle.player.proofs.Tree.{treed_start, few_variables, treed_act}
+use Rattle.player.proofs.Limits.{limits_start, few_variables, limits_act}
 use Rattle.player.proofs.Values.{AllBelow, below_map, below_append, below_at, LowNode, below_mono, DefLow, values, key_records-below, clause_tokens-below, log_small}
 
 -- ---- the literals of a table are low
@@ -94,7 +94,7 @@ neg_low l v h = omega arith
 negs_low : (v : ℕ) (ls : List ℕ) → AllBelow (2 * v) ls → AllBelow (2 * v) (map neg ls)
 negs_low v ls p = below_map (2 * v) neg ls (λ l m. neg_low l v (below_at (2 * v) ls p l m))
 
-pub low_nodes : (h : Head) (s : State) (b : ℕ) → Sound h s → Treed h s → 2 * s.next_variable + 2 ≤ b → 300 ≤ b → (n : ℕ) → n < length s.nodes
+pub low_nodes : (h : Head) (s : State) (b : ℕ) → Sound h s → Limits h s → 2 * s.next_variable + 2 ≤ b → 300 ≤ b → (n : ℕ) → n < length s.nodes
     → LowNode b (node_at s.nodes n)
 low_nodes h s b p k l m n g =
     let v = s.next_variable in
@@ -103,7 +103,7 @@ low_nodes h s b p k l m n g =
       lits = below_mono (2 * v) b (leaves (node_at s.nodes n)) (omega arith) ls;
       nots = below_mono (2 * v) b (map neg (leaves (node_at s.nodes n))) (omega arith) (negs_low v (leaves (node_at s.nodes n)) ls);
       outs = λ i x y. let o = output_low h s p n i g x y in omega (arith, o, neg_low (output (node_at s.nodes n) i) v o);
-      short = omega (arith, k.each n g);
+      short = omega (arith, k.short n g);
     }
 
 -- ---- the clauses of a right request are low
@@ -264,13 +264,13 @@ module _ (b : ℕ) (big : 300 ≤ b) (t : List Node) (sz : Sized t) (low : (n : 
 
 -- The invariants of the table, of the counts and of the log, together.
 pub record Low (h : Head) (b : ℕ) (s : State) : Type 0 where
-  pub treed : Treed h s
+  pub limits : Limits h s
   pub counted : Counted h s
   pub low : LowIf b s.nodes s
 
 low_start : (h : Head) (b : ℕ) → Low h b (start h)
 low_start h b = record {
-  treed = treed_start h;
+  limits = limits_start h;
   counted = counted_start h;
   low =
       λ l. record { all = unfold start flat_map AllBelow in tt; froms = λ e m. absurd (none e m) };
@@ -343,16 +343,16 @@ act_low h b v l (Command.Request n w d) s q p k =
     let t = s.nodes in
     let f = request_fits h t n w d q in
     let a = requests_asked t n w d f in
-    let few = few_variables k.treed in
+    let few = few_variables k.limits in
     subst (λ (x : List Node). LowIf b x (serve t (requests n w d) s)) (sym (serve_nodes t (sized_ok t p.sized) (requests n w d) a s).0)
-    (serve_low b (omega arith) t p.sized (low_nodes h s b p k.treed (omega arith) (omega arith)) k.treed.each (requests n w d)
+    (serve_low b (omega arith) t p.sized (low_nodes h s b p k.limits (omega arith) (omega arith)) k.limits.short (requests n w d)
     (requests_right t n w d f) a s k.low)
 act_low h b v l Command.Close s q p k = subst (λ (x : List Node). LowIf b x (delete s)) (unfold delete in refl) (delete_low b s k.low)
 
 low_act : (h : Head) (b : ℕ) → h.variable ≤ most_head → 2 * most_variable + 2 ≤ b → (c : Command) (s : State) → first_no (questions h s.nodes c) ≡ 0 → Sound h s
     → Low h b s → Low h b (act c s)
 low_act h b v l c s q p k =
-    record { treed = treed_act h c s q p k.treed; counted = counted_act h c s q p k.counted; low = act_low h b v l c s q p k }
+    record { limits = limits_act h c s q p k.limits; counted = counted_act h c s q p k.counted; low = act_low h b v l c s q p k }
 
 pub all_low : {h : Head} {capacity : ℕ} {cs : List Command} {u : State} (b : ℕ) → h.variable ≤ most_head → 2 * most_variable + 2 ≤ b
     → AllPassed h capacity cs (start h) u → Low h b u

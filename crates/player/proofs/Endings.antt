@@ -108,10 +108,10 @@ pub record Ending (bs : List ℕ) (capacity : ℕ) : Type 0 where
   pub number : ℕ
   pub place : ℕ
   pub is : played bs capacity ≡ outcome capacity number place state
-  pub number_low : number ≤ 14
+  pub number_low : number ≤ 15
   pub place_low : place ≤ most_bytes + 1
 
-at_head : (bs : List ℕ) (capacity n : ℕ) → n ≤ 14 → played bs capacity ≡ refused_at_head capacity n → Ending bs capacity
+at_head : (bs : List ℕ) (capacity n : ℕ) → n ≤ 15 → played bs capacity ≡ refused_at_head capacity n → Ending bs capacity
 unfolding refused_at_head
 at_head bs capacity n l e =
     record { state = untouched; led = nowhere refl; number = n; place = 0; is = e; number_low = l; place_low = omega arith }

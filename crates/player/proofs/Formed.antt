@@ -20,16 +20,16 @@ use Rattle.player.specs.Passes.{AllPassed, all_done, all_more}
 use Rattle.player.specs.Player.{head_fits, first_no, questions, make, delete, act}
 use Rattle.player.specs.declared.Command.{Command}
 use Rattle.player.proofs.Counts.{counted_act}
-use Rattle.player.proofs.Questions.{answered_no, OutOfRange, limits}
+use Rattle.player.proofs.Questions.{answered_no, OutOfRange, head_range}
 use Rattle.player.proofs.Sound.{sound_start, sound_act, request_fits, requests_asked, requests_right, serve_nodes}
-use Rattle.player.proofs.Tree.{treed_start, treed_act}
+use Rattle.player.proofs.Limits.{limits_start, limits_act}
 
 pub formed_start : (h : Head) → head_fits h ≡ true → Formed h (start h)
 unfolding start
 formed_start h e = record {
   head = e;
   sound = sound_start h;
-  treed = treed_start h;
+  limits = limits_start h;
   counted = counted_start h;
   held = λ x m. absurd (Memᴰ.not-nil m);
 }
@@ -67,7 +67,7 @@ pub formed_act : (h : Head) (c : Command) (s : State) → first_no (questions h 
 formed_act h c s q f = record {
   head = f.head;
   sound = sound_act h c s q f.sound;
-  treed = treed_act h c s q f.sound f.treed;
+  limits = limits_act h c s q f.sound f.limits;
   counted = counted_act h c s q f.sound f.counted;
   held = held_act h c s q f.sound f.held;
 }
@@ -80,7 +80,7 @@ all_formed {h} (all_more {c = c} {s = s} q a) f = all_formed a (subst (Formed h)
 pub head_low : (h : Head) → head_fits h ≡ true → (h.variable ≤ most_head) × (1 ≤ h.step) × (h.step ≤ most_head)
 head_low h e =
     let inside : OutOfRange h.variable h.step → ⊥ =
-    λ o. let k : head_fits h ≡ false = answered_no (limits h) o in let z : ◌≡◌ {A = ℕ} 0 1 = cc in omega arith in
+    λ o. let k : head_fits h ≡ false = answered_no (head_range h) o in let z : ◌≡◌ {A = ℕ} 0 1 = cc in omega arith in
     let i : ¬ (most_head < h.variable) = λ l. inside (inl l) in
     let j : ¬ (h.step < 1) = λ l. inside (inr (inl l)) in
     let k : ¬ (most_head < h.step) = λ l. inside (inr (inr l)) in

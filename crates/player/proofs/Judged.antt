@@ -1,7 +1,7 @@
--- A whole script: number and place of its outcome are those of document 01's questions, and of no other.
+-- A whole script: number and place of its outcome are those of the documents' questions, and of no other.
 use mathlib.Core.Path.{◌≡◌, refl, sym, ◌∙◌, ap, subst}
 use mathlib.Core.Bool.{Bool, true, false}
-use mathlib.Core.Logic.{◌⊎◌, inl, inr, ⊎_elim}
+use mathlib.Core.Logic.{◌⊎◌, inl, inr, ⊎_elim, ◌≢◌}
 use mathlib.Core.List.Memᴰ
 use mathlib.Core.List.{List, [], ◌∷◌, ◌++◌, append_assoc, Memᴰ}
 use Prim.Native.Nat.{ℕ, zero, suc, ◌≤◌, ◌<◌}
@@ -10,18 +10,22 @@ use lib.ListN.{length, length-append}
 use Rattle.sizes.specs.Sizes.{most_head, most_bytes}
 use Rattle.number.specs.Number.{Bytes}
 use Rattle.cert.specs.State.{State, start, Head}
+use Rattle.cert.proofs.Apart.{sized_ok}
+use Rattle.cert.proofs.Rules.{Ok}
+use Rattle.player.specs.Formed.{Sound}
 use Rattle.player.specs.Passes.{AllPassed, all_done}
 use Rattle.player.specs.Player.{act, play, plays, accepted, refused, outcome, head_fits, refused_at_head, play_script, played}
 use Rattle.player.specs.Script.{Next, command, refuse, Commands, before, stop, closes, command_numbers, read_command, read_commands, Script, script, headless, read_script}
-use Rattle.player.specs.Verdict.{Reads, No, no_6, no_7, no_8_join, no_8_request, no_9, no_10, no_11, no_12, no_14, Reached, at_head, one_more, Verdict, untouched, no_1, no_2_head, no_3, no_2_code, no_4, no_5, no_2, no_more, passed}
+use Rattle.player.specs.Verdict.{Reads, No, no_6, no_7, no_8_join, no_8_request, no_9, no_15, no_10, no_11, no_12, no_14, Reached, at_head, one_more, Verdict, untouched, no_1, no_2_head, no_3, no_2_code, no_4, no_5, no_2, no_more, passed}
 use Rattle.player.specs.declared.Command.{Command}
 use Rattle.player.specs.declared.Command.TheVariants.{Leaf, Join, Request, Close}
 use Rattle.player.proofs.Coding.{CloseLast, nothing_left}
 use Rattle.player.proofs.Endings.{Led, nowhere, on}
 use Rattle.player.proofs.Fronts.{reads_cons, cons_reads, reads_one, one_reads, rest_bytes, reads_command, command_reads, command_shorter, Stands, at_end, code_unread, after_close, not_a_code, other_unread, stands, next_stands, unread_code, closed_code, other_code, unread_others}
-use Rattle.player.proofs.Questions.{Answer, answer_yes, answer_no, answered_no, answered_yes, first_holds, Judged, stopped, allowed, judged, refused_exactly, accepted_exactly, sizes, sized, OutOfRange, limits}
+use Rattle.player.proofs.Questions.{Answer, answer_yes, answer_no, answered_no, answered_yes, first_holds, Judged, stopped, allowed, judged, refused_exactly, accepted_exactly, none_asked, sizes, sized, OutOfRange, head_range}
 use Rattle.player.proofs.Plays.{play_passed, plays_done, plays_ended, plays_accepted, plays_refused, script_true, script_false, script_headless, played_true, played_false, script_is, head_read}
 use Rattle.player.proofs.Runs.{all_last}
+use Rattle.player.proofs.Sound.{sound_start, sound_act}
 
 -- ---- the player's outcome
 
@@ -129,13 +133,22 @@ at_more {bs} {capacity} {h} {cs} {s} {rest} a unclosed c more k u go =
       plays_on = rw places ((rw j.2 at a.plays_on) ∙ plays_accepted h capacity after.ending c after.list (length cs) s u go);
     }
 
+-- The table of the state is well made, so that question 9 sees all that lies below a node.
+pub reached_sound : {bs : List ℕ} {capacity : ℕ} {h : Head} {cs : List Command} {s : State} {rest : List ℕ} → Reached bs capacity h cs s rest → Sound h s
+reached_sound {h = h} (at_head short small k v one n) = sound_start h
+reached_sound {capacity = capacity} {h = h} (one_more {s = s} {c = c} r unclosed k none) =
+    let p = reached_sound r in sound_act h c s (none_asked h capacity s (sized_ok s.nodes p.sized) c (λ n l. none n)) p
+
+pub reached_ok : {bs : List ℕ} {capacity : ℕ} {h : Head} {cs : List Command} {s : State} {rest : List ℕ} → Reached bs capacity h cs s rest → Ok s.nodes
+reached_ok {s = s} r = sized_ok s.nodes (reached_sound r).sized
+
 at_reached : {bs : List ℕ} {capacity : ℕ} {h : Head} {cs : List Command} {s : State} {rest : List ℕ} → Bytes bs → Reached bs capacity h cs s rest
     → At bs capacity h cs s rest
 at_reached {bs} {capacity} {h} w (at_head {rest = rest} short small k v one n) =
     at_start bs capacity h rest w short small k
-    (answered_yes (limits h) (⊎_elim (λ l. omega arith) (⊎_elim (λ l. omega arith) (λ l. omega arith))))
+    (answered_yes (head_range h) (⊎_elim (λ l. omega arith) (⊎_elim (λ l. omega arith) (λ l. omega arith))))
 at_reached {bs} {capacity} {h} w (one_more {s = s} {rest = rest} {c = c} r unclosed k none) =
-    at_more (at_reached w r) unclosed c rest k (act c s) ((accepted_exactly h capacity s c).1 none)
+    at_more (at_reached w r) unclosed c rest k (act c s) ((accepted_exactly h capacity s (reached_ok r) c).1 none)
 
 -- ---- how it goes on from there
 
@@ -186,7 +199,7 @@ verdict_gives {bs} {capacity} w (no_3 {v = v} {n = n} {rest = rest} short small 
     let h : Head = record { variable = v; step = n } in
     gives_head bs capacity 3
     (played_true capacity bs (sized bs capacity short small) ∙ ap (play_script capacity) (head_script h k)
-    ∙ script_false capacity h (read_commands (length rest) false rest) (answered_no (limits h) o))
+    ∙ script_false capacity h (read_commands (length rest) false rest) (answered_no (head_range h) o))
 verdict_gives w (no_2_code {rest = rest} r some none) =
     let a = at_reached w r in
     stops_reading a 1 (unread_code a.closed rest a.bytes some none)
@@ -200,7 +213,7 @@ verdict_gives w (no_2 r k unclosed i j none) =
     let a = at_reached w r in
     stops_reading a 1 (rw (unclosed_false a unclosed) (unread_others a.bytes k i j none))
 verdict_gives {bs} {capacity} w (no_more {h = h} {s = s} {more = more} {c = c} {n = n} r unclosed k f) =
-    stops_playing (at_reached w r) unclosed c more k n ((refused_exactly h capacity s c n).1 f)
+    stops_playing (at_reached w r) unclosed c more k n ((refused_exactly h capacity s (reached_ok r) c n).1 f)
 verdict_gives w (passed r) = ends (at_reached w r) refl
 
 -- ---- every script has one
@@ -222,7 +235,7 @@ one_step {bs} {capacity} {h} {cs} {s} {rest} w r go = by (read_command a.closed 
     by t (after_close k e) = (4, suc (length cs), s, no_4 r k (a.closed_yes e))
     by t (not_a_code k e o) = (5, suc (length cs), s, no_5 r k (a.closed_no e) o)
     by t (other_unread k e i j none) = (2, suc (length cs), s, no_2 r k (a.closed_no e) i j none)
-    by t (stands c more k e) = put (judged h capacity s c)
+    by t (stands c more k e) = put (judged h capacity s (reached_ok r) c)
       where
         put : Judged h capacity s c → Some bs capacity
         put (stopped n f q) = (n, suc (length cs), s, no_more {c = c} r (a.closed_no e) k f)
@@ -254,7 +267,7 @@ some_verdict bs capacity w = by (sizes bs capacity)
                 let j = head_script (record { variable = v; step = n }) k in
                 let z : ◌≡◌ {A = ℕ} 0 1 = cc in
                 omega arith
-        at_script (script h cs) e = in_range (limits h)
+        at_script (script h cs) e = in_range (head_range h)
           where
             k : (rest : List ℕ) × Reads bs (h.variable ∷ h.step ∷ []) rest
             k = head_reads w e
@@ -285,27 +298,28 @@ verdict_is w v = (verdict_gives w v).is
 
 -- ---- the numbers in use
 
-pub number_used : {h : Head} {capacity : ℕ} {s : State} {c : Command} {n : ℕ} → No h capacity s c n → ((6 ≤ n) × (n ≤ 12)) ⊎ (n ≡ 14)
-number_used (no_6 p) = inl (omega arith)
-number_used (no_7 p q) = inl (omega arith)
-number_used (no_8_join p) = inl (omega arith)
-number_used (no_8_request p) = inl (omega arith)
-number_used (no_9 p) = inl (omega arith)
-number_used (no_10 p) = inl (omega arith)
-number_used (no_11 p) = inl (omega arith)
-number_used (no_12 p) = inl (omega arith)
-number_used (no_14 p) = inr (omega arith)
+pub number_used : {h : Head} {capacity : ℕ} {s : State} {c : Command} {n : ℕ} → No h capacity s c n → (6 ≤ n) × (n ≤ 15) × (n ≢ 13)
+number_used (no_6 p) = (omega arith, omega arith, λ e. omega arith)
+number_used (no_7 p q) = (omega arith, omega arith, λ e. omega arith)
+number_used (no_8_join p) = (omega arith, omega arith, λ e. omega arith)
+number_used (no_8_request p) = (omega arith, omega arith, λ e. omega arith)
+number_used (no_9 p q) = (omega arith, omega arith, λ e. omega arith)
+number_used (no_15 p) = (omega arith, omega arith, λ e. omega arith)
+number_used (no_10 p) = (omega arith, omega arith, λ e. omega arith)
+number_used (no_11 p) = (omega arith, omega arith, λ e. omega arith)
+number_used (no_12 p) = (omega arith, omega arith, λ e. omega arith)
+number_used (no_14 p) = (omega arith, omega arith, λ e. omega arith)
 
-pub verdict_used : {bs : List ℕ} {capacity n p : ℕ} {s : State} → Verdict bs capacity n p s → (n ≤ 12) ⊎ (n ≡ 14)
-verdict_used (no_1 o) = inl (omega arith)
-verdict_used (no_2_head short small none) = inl (omega arith)
-verdict_used (no_3 short small k o) = inl (omega arith)
-verdict_used (no_2_code r some none) = inl (omega arith)
-verdict_used (no_4 r k m) = inl (omega arith)
-verdict_used (no_5 r k unclosed o) = inl (omega arith)
-verdict_used (no_2 r k unclosed i j none) = inl (omega arith)
-verdict_used (no_more r unclosed k f) = ⊎_elim (λ l. inl l.1) inr (number_used (first_holds f))
-verdict_used (passed r) = inl (omega arith)
+pub verdict_used : {bs : List ℕ} {capacity n p : ℕ} {s : State} → Verdict bs capacity n p s → (n ≤ 15) × (n ≢ 13)
+verdict_used (no_1 o) = (omega arith, λ e. omega arith)
+verdict_used (no_2_head short small none) = (omega arith, λ e. omega arith)
+verdict_used (no_3 short small k o) = (omega arith, λ e. omega arith)
+verdict_used (no_2_code r some none) = (omega arith, λ e. omega arith)
+verdict_used (no_4 r k m) = (omega arith, λ e. omega arith)
+verdict_used (no_5 r k unclosed o) = (omega arith, λ e. omega arith)
+verdict_used (no_2 r k unclosed i j none) = (omega arith, λ e. omega arith)
+verdict_used (no_more r unclosed k f) = (number_used (first_holds f)).1
+verdict_used (passed r) = (omega arith, λ e. omega arith)
 
 -- ---- a script that passes
 
@@ -320,17 +334,17 @@ accepted_whole e (no_2_code r some none) = absurd (omega arith)
 accepted_whole e (no_4 r k m) = absurd (omega arith)
 accepted_whole e (no_5 r k unclosed o) = absurd (omega arith)
 accepted_whole e (no_2 r k unclosed i j none) = absurd (omega arith)
-accepted_whole e (no_more r unclosed k f) = ⊎_elim (λ l. absurd (omega (arith, l, e))) (λ l. absurd (omega (arith, l, e))) (number_used (first_holds f))
+accepted_whole e (no_more r unclosed k f) = absurd (omega (arith, number_used (first_holds f), e))
 accepted_whole e (passed {h = h} {cs = cs} {s = s} r) = (h, cs, s, r)
 
 -- The commands passed.
 pub reached_all : {bs : List ℕ} {capacity : ℕ} {h : Head} {cs : List Command} {s : State} {rest : List ℕ} → Reached bs capacity h cs s rest
     → (length bs ≤ most_bytes) × (capacity ≤ most_bytes) × (head_fits h ≡ true) × AllPassed h capacity cs (start h) s
 reached_all {h = h} (at_head short small k v one n) =
-    (short, small, answered_yes (limits h) (⊎_elim (λ l. omega arith) (⊎_elim (λ l. omega arith) (λ l. omega arith))), all_done)
+    (short, small, answered_yes (head_range h) (⊎_elim (λ l. omega arith) (⊎_elim (λ l. omega arith) (λ l. omega arith))), all_done)
 reached_all {capacity = capacity} {h = h} (one_more {s = s} {c = c} r unclosed k none) =
     let a = reached_all r in
-    (a.0, a.1, a.2, all_last a.3 (play_passed h capacity c s (act c s) ((accepted_exactly h capacity s c).1 none)))
+    (a.0, a.1, a.2, all_last a.3 (play_passed h capacity c s (act c s) ((accepted_exactly h capacity s (reached_ok r) c).1 none)))
 
 -- A close is the last of them.
 open_command : (c : Command) → (Close ≡ c → ⊥) → closes c ≡ false

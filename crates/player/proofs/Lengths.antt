@@ -9,17 +9,20 @@ use borrow.Author.Tests.{lt-ltb, le-ltb, le-leb, lt-leb, ne_eqb, leb-true, leb-f
 use lib.Dec.{leb, ltb}
 use lib.ListN.{length, take, replicate, length-append}
 use lib.Seq.{take-append_seam}
-use Rattle.sizes.specs.Sizes.{most_bytes, most_leaves}
+use Rattle.sizes.specs.Sizes.{most_bytes, most_leaves, most_joins}
 use Rattle.number.specs.Number.{encode}
 use Rattle.pb.specs.Sum.{variable, neg}
 use Rattle.memo.proofs.Lists.{flat_map_append}
 use Rattle.record.specs.Record.{Record, numbers, bytes, derivation, clause, deletion}
-use Rattle.totdb.specs.Nodes.{Node, leaf, join, node_at, leaves, len, range, known, leaf_count, taken}
+use Rattle.totdb.specs.Nodes.{Node, leaf, join, node_at, leaves, len, range, known, leaf_count, join_count}
+use Rattle.totdb.specs.Below.{share_leaf}
 use Rattle.totdb.specs.declared.Side.{Side}
 use Rattle.cert.specs.Definitions.{key_records}
 use Rattle.cert.specs.Requests.{clause_tokens}
 use Rattle.cert.specs.State.{State, start, step_in, define, write, hold, requests, Head, stored_steps}
 use Rattle.cert.proofs.Apart.{sized_ok}
+use Rattle.cert.proofs.LeavesBelow.{one_twice}
+use Rattle.cert.proofs.Rules.{Ok}
 use Rattle.cert.proofs.Serving.{serve_in}
 use Rattle.player.specs.Formed.{Sound}
 use Rattle.player.specs.Passes.{AllPassed, all_done, all_more, Passes}
@@ -51,13 +54,12 @@ module _ (h : Head) (t : List Node) (n : ℕ) (there : n < length t) where
 
 -- ---- the offset and the limit of a side
 
--- What questions 8 and 9 ask of a join.
+-- What questions 8, 9 and 15 ask of a join.
 pub record Free (t : List Node) (l r : Side) : Type 0 where
   pub left : l.node < length t
   pub right : r.node < length t
-  pub apart : l.node ≢ r.node
-  pub left_free : taken t l.node ≡ false
-  pub right_free : taken t r.node ≡ false
+  pub apart : share_leaf t l.node r.node ≡ false
+  pub few : join_count t < most_joins
 
 -- A side that question 10 lets pass.
 pub record Inside (t : List Node) (s : Side) : Type 0 where
@@ -80,7 +82,7 @@ module _ (h : Head) (t : List Node) (l r : Side) (free : Free t l r) where
   asked_ten =
       let left : ltb l.node (length t) ≡ true = lt-ltb l.node (length t) free.left in
       let right : ltb r.node (length t) ≡ true = lt-ltb r.node (length t) free.right in
-      rw (left, right, ne_eqb l.node r.node free.apart, free.left_free, free.right_free)
+      rw (left, right, free.apart, lt-ltb (join_count t) most_joins free.few)
 
   pub sides_inside : Inside t l → Inside t r → first_no (questions h t (Command.Join l r)) ≡ 0
   unfolding first_no
@@ -112,6 +114,23 @@ module _ (h : Head) (t : List Node) (l r : Side) (free : Free t l r) (unlimited 
 
   pub offset_length : l.offset ≡ len (node_at t l.node) → first_no (questions h t (Command.Join l r)) ≡ 10
   offset_length e = left_outside h t l r free (offset_high (omega arith))
+
+-- ---- the leaves below the sides of a join, and the number of joins
+
+module _ (h : Head) (t : List Node) (l r : Side) (left : l.node < length t) (right : r.node < length t) where
+  -- Questions 15 and 10 are not put.
+  pub leaf_shared : share_leaf t l.node r.node ≡ true → first_no (questions h t (Command.Join l r)) ≡ 9
+  unfolding questions first_no
+  leaf_shared e = rw (lt-ltb l.node (length t) left, lt-ltb r.node (length t) right, e)
+
+  -- One node twice, whatever the windows show.
+  pub one_node : Ok t → l.node ≡ r.node → first_no (questions h t (Command.Join l r)) ≡ 9
+  one_node ok e = leaf_shared (subst (λ (k : ℕ). share_leaf t l.node k ≡ true) e (one_twice t ok l.node left))
+
+  -- Question 10 is not put.
+  pub joins_full : share_leaf t l.node r.node ≡ false → most_joins ≤ join_count t → first_no (questions h t (Command.Join l r)) ≡ 15
+  unfolding questions first_no
+  joins_full e k = rw (lt-ltb l.node (length t) left, lt-ltb r.node (length t) right, e, le-ltb (join_count t) most_joins k)
 
 -- ---- the leaves
 
@@ -259,8 +278,8 @@ unfolding three len node_at leaves
 met_within = value_within ten three 5 (omega arith) 3 3 (omega arith) (omega arith) (omega arith) (omega arith)
 
 free_three : (f k g j : ℕ) → Free three (side 5 f k) (side 3 g j)
-unfolding three taken side
-free_three f k g j = record { left = omega arith; right = omega arith; apart = λ e. omega arith; left_free = refl; right_free = refl }
+unfolding three share_leaf join_count side
+free_three f k g j = record { left = omega arith; right = omega arith; apart = refl; few = omega arith }
 
 met_last : first_no (questions ten three (Command.Join (side 5 2 0) (side 3 0 0))) ≡ 0
 unfolding three len node_at leaves side
@@ -289,6 +308,25 @@ unfolding three len node_at leaves side
 met_whole =
     sides_inside ten three (side 5 0 3) (side 3 0 1) (free_three 0 3 0 1) (record { below = omega arith; within = omega arith })
     (record { below = omega arith; within = omega arith })
+
+-- two leaves and n joins of them, and a third leaf
+many : ℕ → List Node
+many n = leaf 0 ∷ leaf 2 ∷ leaf 4 ∷ replicate n (join (0 ∷ 2 ∷ []) 10 (side 0 0 0) (side 1 0 0))
+
+-- The 255th join, whose sides stand under others; the 256th, also with an offset past the length; then a leaf with a join over it, one node twice, two
+-- joins of the same leaves, and a node that is not there.
+met_joins : map {B = ℕ} (λ (q : List Node × Command). first_no (questions ten q.0 q.1)) (
+    (many 254, Command.Join (side 0 0 0) (side 1 0 0))
+    ∷ (many 254, Command.Join (side 5 1 0) (side 2 0 0))
+    ∷ (many 255, Command.Join (side 0 0 0) (side 1 0 0))
+    ∷ (many 255, Command.Join (side 0 1 0) (side 1 0 0))
+    ∷ (many 255, Command.Join (side 0 0 0) (side 3 1 1))
+    ∷ (many 255, Command.Join (side 2 9 0) (side 2 0 0))
+    ∷ (many 3, Command.Join (side 3 0 1) (side 4 1 1))
+    ∷ (many 255, Command.Join (side 258 0 0) (side 258 0 0))
+    ∷ []) ≡ 0 ∷ 0 ∷ 15 ∷ 15 ∷ 9 ∷ 9 ∷ 9 ∷ 8 ∷ []
+unfolding questions many side ten first_no
+met_joins = refl
 
 met_few : first_no (questions ten three (Command.Leaf 8)) ≡ 0
 unfolding three variable neg known leaf_count ten

@@ -1,5 +1,6 @@
 -- Theorems about scripts and the player.
 pub mod Refusals
+pub mod Below
 pub mod Questions
 pub mod Reading
 pub mod Places
@@ -9,7 +10,7 @@ pub mod Sound
 pub mod Runs
 pub mod Scripts
 pub mod Counts
-pub mod Tree
+pub mod Limits
 pub mod NodeBytes
 pub mod Values
 pub mod Decoded

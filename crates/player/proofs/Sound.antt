@@ -2,7 +2,7 @@
 use Rattle.std.proofs.lemmas.Bool.{true≢false}
 use mathlib.Core.Path.{◌≡◌, refl, sym, ◌∙◌, ap, subst}
 use mathlib.Core.Bool.{Bool, true, false}
-use mathlib.Core.Logic.{⊎_elim, ◌≢◌}
+use mathlib.Core.Logic.{⊎_elim}
 use mathlib.Core.List.Memᴰ
 use mathlib.Core.List.{List, [], ◌∷◌, ◌++◌, map, Memᴰ, Nodup-nil, Nodup-cons}
 use Prim.Native.Nat.{ℕ, zero, suc, ◌+◌, ◌-◌, ◌*◌, ◌≤◌, ◌<◌}
@@ -11,13 +11,14 @@ use borrow.Author.Tests.{eq-eqb}
 use lib.ListN.{length, length-append, length-map}
 use Rattle.pb.specs.Sum.{variable}
 use Rattle.memo.proofs.Lists.{not_mem}
-use Rattle.totdb.specs.Nodes.{Node, any, node_at, range, limited, plain_or, side_leaves, side_len, side_outputs, outputs, output, len, leaves, join, known, leaf, leaf_of, taken, plain_form, join_of, joined}
+use Rattle.sizes.specs.Sizes.{most_joins}
+use Rattle.totdb.specs.Nodes.{Node, any, node_at, range, limited, plain_or, side_leaves, side_len, side_outputs, outputs, output, len, leaves, join, known, leaf, leaf_of, join_count, plain_form, join_of, joined}
 use Rattle.totdb.specs.declared.Side.{Side}
 use Rattle.totdb.proofs.Listed.{length_range}
 use Rattle.totdb.proofs.Sides.{plain_length}
 use Rattle.cert.specs.Definitions.{if, only_if, Direction}
 use Rattle.cert.specs.Requests.{Request, node_of, request, Right}
-use Rattle.cert.specs.Sized.{Fit}
+use Rattle.cert.specs.Sized.{Separate, Fit}
 use Rattle.cert.specs.State.{State, start, requests, directions, serve, define, write, hold, Head}
 use Rattle.cert.proofs.Apart.{sized_ok}
 use Rattle.cert.proofs.Rules.{In, Ok}
@@ -27,7 +28,7 @@ use Rattle.player.specs.Formed.{Sound}
 use Rattle.player.specs.Player.{first_no, questions, make, act, delete}
 use Rattle.player.specs.Verdict.{OffNode, offset_high, limit_high}
 use Rattle.player.specs.declared.Command.{Command}
-use Rattle.player.proofs.Questions.{leaf_low, join_there, join_apart, join_free, join_sides, request_there, request_value, request_direction}
+use Rattle.player.proofs.Questions.{leaf_low, join_there, join_apart, join_few, join_sides, request_there, request_value, request_direction}
 
 -- ---- tests
 
@@ -103,7 +104,7 @@ low_literal : (l v : ℕ) → variable l < v → l < 2 * v
 unfolding variable
 low_literal l v h = omega arith
 
-sound_leaf : (h : Head) (l : ℕ) (s : State) → first_no (questions h s.nodes (Command.Leaf l)) ≡ 0 → known s.nodes l ≡ false → Sound h s
+pub sound_leaf : (h : Head) (l : ℕ) (s : State) → first_no (questions h s.nodes (Command.Leaf l)) ≡ 0 → known s.nodes l ≡ false → Sound h s
     → Sound h (make (leaf l) 0 s)
 unfolding make
 sound_leaf h l s q new p =
@@ -118,37 +119,35 @@ sound_leaf h l s q new p =
 
 -- ---- join
 
--- What questions 8 to 10 say of two sides.
+-- What questions 8, 9, 15 and 10 say of two sides.
 pub record JoinFits (t : List Node) (l r : Side) : Type 0 where
   pub left : l.node < length t
   pub right : r.node < length t
-  pub apart : l.node ≢ r.node
-  pub left_free : taken t l.node ≡ false
-  pub right_free : taken t r.node ≡ false
+  pub apart : Separate t l.node r.node
+  pub few : join_count t < most_joins
   pub left_in : l.offset + side_len t l ≤ len (node_at t l.node)
   pub right_in : r.offset + side_len t r ≤ len (node_at t r.node)
   pub left_some : l.offset < len (node_at t l.node)
   pub right_some : r.offset < len (node_at t r.node)
 
 -- They say it of the plain forms too.
-pub join_fits : (h : Head) (t : List Node) (l r : Side) → first_no (questions h t (Command.Join l r)) ≡ 0 → JoinFits t (plain_form t l) (plain_form t r)
-join_fits h t l r q =
-    let there = join_there h t l r q in
-    let free = join_free h t l r q in
-    let fits = join_sides h t l r q in
+pub join_fits : (h : Head) (t : List Node) → Ok t → (l r : Side) → first_no (questions h t (Command.Join l r)) ≡ 0
+    → JoinFits t (plain_form t l) (plain_form t r)
+join_fits h t ok l r q =
+    let there = join_there h t ok l r q in
+    let fits = join_sides h t ok l r q in
     record {
       left = there.0;
       right = there.1;
-      apart = join_apart h t l r q;
-      left_free = free.0;
-      right_free = free.1;
+      apart = join_apart h t ok l r q;
+      few = join_few h t ok l r q;
       left_in = rw (plain_side_len t l) (side_in t l fits.0).0;
       right_in = rw (plain_side_len t r) (side_in t r fits.1).0;
       left_some = (side_in t l fits.0).1;
       right_some = (side_in t r fits.1).1;
     }
 
-sound_join : (h : Head) (l r : Side) (s : State) → JoinFits s.nodes l r → Sound h s
+pub sound_join : (h : Head) (l r : Side) (s : State) → JoinFits s.nodes l r → Sound h s
     → Sound h (make (join_of s.nodes s.next_variable l r) (len (join_of s.nodes s.next_variable l r)) s)
 unfolding make len leaves
 sound_join h l r s f p =
@@ -256,7 +255,7 @@ sound_act h (Command.Leaf l) s q p = by (known s.nodes l) refl
     by : (b : Bool) → known s.nodes l ≡ b → Sound h (elim b as (λ _. State) [ true ↦ s | false ↦ make (leaf l) 0 s ])
     by true e = p
     by false e = sound_leaf h l s q e p
-sound_act h (Command.Join l r) s q p = unfold joined in sound_join h _ _ s (join_fits h s.nodes l r q) p
+sound_act h (Command.Join l r) s q p = unfold joined in sound_join h _ _ s (join_fits h s.nodes (sized_ok s.nodes p.sized) l r q) p
 sound_act h (Command.Request n v d) s q p =
     let k = serve_nodes s.nodes (sized_ok s.nodes p.sized) (requests n v d)
     (requests_asked s.nodes n v d (request_fits h s.nodes n v d q)) s in

@@ -103,10 +103,12 @@ cases =
     ∷ case (leaves ++ (2 ∷ 3 ∷ 0 ∷ 0 ∷ 0 ∷ 0 ∷ 0 ∷ [])) 0 8 4
     ∷ case (leaves ++ (2 ∷ 0 ∷ 0 ∷ 0 ∷ 3 ∷ 0 ∷ 0 ∷ [])) 0 8 4
     ∷ case (leaves ++ (3 ∷ 3 ∷ 1 ∷ 1 ∷ [])) 0 8 4
-    -- 9: one node twice; a left and a right node under a join
+    -- 9: one node twice; a join over a leaf, left and right; two windows of one join; two joins over a leaf, one through a window that hides it
     ∷ case (leaves ++ (2 ∷ 0 ∷ 0 ∷ 0 ∷ 0 ∷ 0 ∷ 0 ∷ [])) 0 9 4
-    ∷ case (joined ++ (2 ∷ 0 ∷ 0 ∷ 0 ∷ 2 ∷ 0 ∷ 0 ∷ [])) 0 9 5
-    ∷ case (joined ++ (2 ∷ 2 ∷ 0 ∷ 0 ∷ 1 ∷ 0 ∷ 0 ∷ [])) 0 9 5
+    ∷ case (joined ++ (2 ∷ 3 ∷ 0 ∷ 0 ∷ 1 ∷ 0 ∷ 0 ∷ [])) 0 9 5
+    ∷ case (joined ++ (2 ∷ 0 ∷ 0 ∷ 0 ∷ 3 ∷ 0 ∷ 1 ∷ [])) 0 9 5
+    ∷ case (joined ++ (2 ∷ 3 ∷ 0 ∷ 1 ∷ 3 ∷ 1 ∷ 0 ∷ [])) 0 9 5
+    ∷ case (joined ++ (2 ∷ 3 ∷ 1 ∷ 0 ∷ 2 ∷ 0 ∷ 0 ∷ 2 ∷ 4 ∷ 0 ∷ 1 ∷ 3 ∷ 0 ∷ 0 ∷ [])) 0 9 6
     -- 10: an offset, a limit past the rest, one past the length, of a leaf and of a join
     ∷ case (joined ++ (2 ∷ 3 ∷ 2 ∷ 0 ∷ 2 ∷ 0 ∷ 0 ∷ [])) 0 10 5
     ∷ case (joined ++ (2 ∷ 3 ∷ 1 ∷ 2 ∷ 2 ∷ 0 ∷ 0 ∷ [])) 0 10 5
@@ -119,7 +121,8 @@ cases =
     ∷ case (joined ++ (3 ∷ 3 ∷ 2 ∷ 4 ∷ [])) 0 12 5
     -- 14: a close takes two bytes
     ∷ case (leaves ++ (4 ∷ [])) 1 14 4
-    -- none: a limit that is the whole length, of a leaf and of a join; the largest head
+    -- none: a node under two joins; a limit that is the whole length, of a leaf and of a join; the largest head
+    ∷ case (joined ++ (2 ∷ 0 ∷ 0 ∷ 0 ∷ 2 ∷ 0 ∷ 0 ∷ [])) 0 0 5
     ∷ case (joined ++ (2 ∷ 2 ∷ 0 ∷ 1 ∷ 3 ∷ 0 ∷ 2 ∷ [])) 0 0 5
     ∷ case (leaves ++ (4 ∷ [])) 2 0 4
     ∷ case (0x80 ∷ 0xc2 ∷ 0xd7 ∷ 0x2f ∷ 0x80 ∷ 0xc2 ∷ 0xd7 ∷ 0x2f ∷ []) 0 0 0
