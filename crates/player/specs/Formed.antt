@@ -2,7 +2,7 @@
 use Rattle.std.specs.Prelude.{◌≡◌, true, false, ℕ, zero, suc, ◌+◌, ◌*◌, ◌≤◌, ◌<◌, length}
 use mathlib.Core.List.{List, Memᴰ}
 use Rattle.sizes.specs.Sizes.{most_leaves, most_joins, width}
-use Rattle.totdb.specs.Nodes.{join, node_at, len, leaf_count, join_count}
+use Rattle.totdb.specs.Nodes.{Node, join, node_at, len, leaf_count, join_count}
 use Rattle.totdb.specs.declared.Side.{Side}
 use Rattle.cert.specs.Counted.{Counted}
 use Rattle.cert.specs.Requests.{Request, Right}
