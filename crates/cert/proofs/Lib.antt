@@ -12,6 +12,7 @@ pub mod Apart
 pub mod Pulls
 pub mod Tables
 pub mod Distinct
+pub mod Few
 pub mod Fits
 pub mod Available
 pub mod Serving
@@ -27,6 +28,7 @@ pub mod Dependencies
 pub mod Lookups
 pub mod Names
 pub mod SchemaCases
+pub mod OneWindow
 pub mod SummandsCases
 pub mod LookupsCases
 pub mod Meaning

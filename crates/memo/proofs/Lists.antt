@@ -1,12 +1,15 @@
--- Facts about lists that the library lacks: decided membership as data, duplicates and permutations under flat_map, and the length of a permutation.
+-- Facts about lists that the library lacks: decided membership as data, duplicates and permutations under flat_map, and lengths.
 use mathlib.Core.Path.{◌≡◌, refl, sym, ◌∙◌, ap, subst}
 use mathlib.Core.HLevel.{⊥_prop}
 use mathlib.Core.Logic.{◌⊎◌, inl, inr, ⊎_elim, dite, ∥∥₁_elim, ∥∥₁_map}
 use mathlib.Core.List.Memᴰ
 use mathlib.Core.List.Permᴰ
-use mathlib.Core.List.{List, [], ◌∷◌, ◌++◌, map, flat_map, append_assoc, Mem, Memᴰ, Permᴰ, Perm, Nodup, Nodup-nil, Nodup-cons, Nodup-append, perm_ext_iff_of_Nodup}
-use Prim.Native.Nat.{suc}
+use mathlib.Core.List.Nodup
+use mathlib.Core.List.{List, [], ◌∷◌, ◌++◌, map, flat_map, append_assoc, Mem, Memᴰ, Permᴰ, Perm, Nodup, Nodup-nil, Nodup-cons, Nodup-append, perm_ext_iff_of_Nodup, Sublistᴰ}
+use Prim.Native.Nat.{suc, ◌≤◌}
+use native.Mathlib.Bridge.{le_prop}
 use native.Mathlib.Nat.{ℕ_set}
+use native.Mathlib.Omega.{arith}
 use lib.ListN.{length}
 use Rattle.memo.specs.Closure.{SameMembers}
 use Rattle.memo.specs.Visit.{fresh, dec_memᴰ}
@@ -68,6 +71,17 @@ module _ {A : Type 0} where
 
   pub length_perm : {xs ys : List A} → Perm xs ys → length xs ≡ length ys
   length_perm {xs} {ys} p = ∥∥₁_elim p (ℕ_set (length xs) (length ys)) length_permᴰ
+
+  length_sublistᴰ : {xs ys : List A} → Sublistᴰ xs ys → length xs ≤ length ys
+  length_sublistᴰ Sublistᴰ.slnil = omega arith
+  length_sublistᴰ (Sublistᴰ.cons s) = omega (arith, length_sublistᴰ s)
+  length_sublistᴰ (Sublistᴰ.cons-cons e s) = omega (arith, length_sublistᴰ s)
+
+  -- A list without duplicates is no longer than one that has all its members.
+  pub length_subset : {xs ys : List A} → Nodup xs → ((a : A) → Memᴰ a xs → Memᴰ a ys) → length xs ≤ length ys
+  length_subset {xs} {ys} d h =
+      ∥∥₁_elim (Nodup.subperm d (λ a m. ∥∥₁_map m (h a))) le_prop
+      (λ w. ∥∥₁_elim w.2 le_prop (λ s. omega (arith, length_perm w.1, length_sublistᴰ s)))
 
   -- What holds of three holds of each.
   pub of_three : (P : A → Type 0) {a b c : A} → P a → P b → P c → (x : A) → Memᴰ x (a ∷ b ∷ c ∷ []) → P x
