@@ -318,7 +318,7 @@ verdict_used (no_2_code r some none) = (omega arith, λ e. omega arith)
 verdict_used (no_4 r k m) = (omega arith, λ e. omega arith)
 verdict_used (no_5 r k unclosed o) = (omega arith, λ e. omega arith)
 verdict_used (no_2 r k unclosed i j none) = (omega arith, λ e. omega arith)
-verdict_used (no_more r unclosed k f) = (number_used (first_holds f)).1
+verdict_used (no_more r unclosed k f) = let k = number_used (first_holds f) in (k.1, k.2)
 verdict_used (passed r) = (omega arith, λ e. omega arith)
 
 -- ---- a script that passes
