@@ -24,7 +24,7 @@ use Rattle.rows.specs.Rows.{Bounded, ShownOf, JoinOf}
 use Rattle.rows.specs.declared.Join.{Join}
 use Rattle.rows.specs.declared.Shown.{Shown}
 use Rattle.rows.proofs.Reading.{from_first_lem}
-use Rattle.rows.proofs.Sides.{side_inside, window_own}
+use Rattle.rows.proofs.Sides.{side_inside, side_shows, window_first}
 use Rattle.define.specs.Store.{direction, WindowOf}
 use Rattle.define.specs.Lookups.{RealOf, SideIn}
 use Rattle.define.proofs.Slots.{real_named}
@@ -64,7 +64,7 @@ module _ {t : List Node} (b : Bounded t) {s : Shown} where
   side_room room i = record {
     reach = side_reach i;
     row = omega (arith, room, (side_inside b i.shown.of).0);
-    window = omega (arith, room, slot_high i.shown.of);
+    window = λ p. rw (i.shown.window p) (omega (arith, room, slot_high (window_first _ _ _ _ (side_shows i.shown.of)).of));
   }
 
 -- ---- a join and its clauses
@@ -187,14 +187,5 @@ module _ {t : List Node} (b : Bounded t) {s : Shown} {a : ℕ} (i : SideIn t s a
     window_operand p =
         let d = window_side t s.side a (direction q) (omega (arith, h, i.shown.length)) p in
         let w : WindowOf t s.side.node s.side.offset (side_len t s.side)
-        = record {
-          row = i.shown.row;
-          slot = s.window;
-          side = s.side;
-          of = i.shown.of;
-          node = refl;
-          offset = refl;
-          outputs = refl;
-          long = omega (arith, h, i.shown.length);
-        } in
-        rw d (window_read f w (window_own b i.shown.of) (keyed s.side a) q)
+        = record { slot = i.shown.slot; shown = side_shows i.shown.of; long = omega (arith, h, i.shown.length) } in
+        rw d (window_read f w (sym (i.shown.window p)) (keyed s.side a) q)

@@ -5,6 +5,7 @@ use Rattle.pb.specs.Sum.{neg}
 use Rattle.totdb.specs.Nodes.{Node, node_at, len, output}
 use Rattle.totdb.specs.declared.Side.{Side}
 use Rattle.cert.specs.Requests.{Clause, of_side, of_node, neg_part, pos_part}
+use Rattle.rows.specs.Windows.{IsWindow}
 use Rattle.rows.specs.Rows.{JoinOf}
 use Rattle.rows.specs.declared.Join.{Join}
 use Rattle.rows.specs.declared.Shown.{Shown}
@@ -66,7 +67,7 @@ pub record SideReach (s : Shown) (a : ℕ) : Type 0 where
 pub record SideRoom (store : List ℕ) (s : Shown) (a : ℕ) : Type 0 where
   pub reach : SideReach s a
   pub row : store_at s.side.node + store_row ≤ length store
-  pub window : s.window + 1 < length store
+  pub window : IsWindow s.side → s.window + 1 < length store
 
 pub record ClauseReach (store : List ℕ) (x : Join) (k : Split) : Type 0 where
   pub node : x.node < most_nodes

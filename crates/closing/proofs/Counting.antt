@@ -12,12 +12,11 @@ use Rattle.totdb.specs.declared.Side.{Side}
 use Rattle.totdb.proofs.Listed.{length_range}
 use Rattle.cert.specs.Definitions.{Key, real, window_zero, window, key_records, real_records, at_least_zero, window_pair, window_if, window_only_if}
 use Rattle.cert.proofs.Counts.{steps_append}
-use Rattle.rows.specs.Rows.{Bounded}
 use Rattle.rows.specs.Windows.{SideAt, at_left, at_right, window_at}
-use Rattle.rows.specs.declared.Shown.{Shown}
-use Rattle.rows.proofs.Reading.{shown_is, row_there}
+use Rattle.rows.proofs.Reading.{numbers, row_there}
+use Rattle.rows.proofs.Sides.{shows_parts}
 use Rattle.define.specs.Store.{WindowOf, Used, slot}
-use Rattle.define.proofs.Slots.{window_inside, window_slot, slot_row}
+use Rattle.define.proofs.Slots.{window_inside, first_shown, slot_row}
 use Rattle.closing.specs.Closing.{SlotOf}
 
 -- ---- the steps of a window
@@ -96,11 +95,11 @@ module _ {t : List Node} where
       (q.0, q.1, h)
 
   -- The sum of value 0 (d = 0), or the rest of the window (d = 1).
-  window_parts : {n o m : ℕ} (p : ℕ) → Bounded t → (u : WindowOf t n o m) (d : ℕ) → d ≤ 1 → p ≡ window_at t n o m + d
-      → (j : ℕ) × (column_of p ≡ left_window_column + 2 * j + d) × (j ≤ 1) × (u.row ≡ row_at (node_of p) + (left_column + 5 * j))
-  window_parts p b u d h e =
-      let c = column u.of in
-      let q = divided c.node (left_window_column + 2 * c.right + d) p (omega (arith, c.two)) (omega (arith, window_slot b u, c.slot)) in
+  window_parts : {n o m : ℕ} (p : ℕ) (u : WindowOf t n o m) (d : ℕ) → d ≤ 1 → p ≡ window_at t n o m + d
+      → (j : ℕ) × (column_of p ≡ left_window_column + 2 * j + d) × (j ≤ 1) × ((first_shown u).row ≡ row_at (node_of p) + (left_column + 5 * j))
+  window_parts p u d h e =
+      let c = column (first_shown u).of in
+      let q = divided c.node (left_window_column + 2 * c.right + d) p (omega (arith, c.two)) (omega (arith, c.slot)) in
       (c.right, q.1, c.two, rw q.0 c.row)
 
 -- ---- the steps, by the column
@@ -111,23 +110,24 @@ module _ {ns : List ℕ} {t : List Node} where
       → steps (real_records (node_at t (node_of p)) (column_of p)) ≡ steps_of t k
   unfolding key_records Used slot
   real_case (real n v) s h = let q = real_parts s in rw (q.0, q.1)
-  real_case (window_zero n o m) {p} s h = let q = window_parts p s.table.bounded s.used 0 (omega arith) (omega (arith, s.is)) in absurd (omega (arith, q.1))
-  real_case (window n o m) {p} s h = let q = window_parts p s.table.bounded s.used 1 (omega arith) s.is in absurd (omega (arith, q.1))
+  real_case (window_zero n o m) {p} s h = let q = window_parts p s.used 0 (omega arith) (omega (arith, s.is)) in absurd (omega (arith, q.1))
+  real_case (window n o m) {p} s h = let q = window_parts p s.used 1 (omega arith) s.is in absurd (omega (arith, q.1))
 
   -- The second column of a window: of the left side (0), or of the right one (1).
   pub window_case : (j : ℕ) (k : Key) {p : ℕ} → SlotOf ns t k p → column_of p ≡ left_window_column + 1 + 2 * j
       → (get_or ns (row_at (node_of p) + (left_column + 5 * j) + side_len_column) 0 ≤ width) × (2 * get_or ns (row_at (node_of p) + (left_column + 5 * j) + side_len_column) 0 + 1 ≡ steps_of t k)
   unfolding Used slot
   window_case j (real n v) s h = let q = real_parts s in absurd (omega (arith, q.1, q.2))
-  window_case j (window_zero n o m) {p} s h = let q = window_parts p s.table.bounded s.used 0 (omega arith) (omega (arith, s.is)) in absurd (omega (arith, q.1))
+  window_case j (window_zero n o m) {p} s h = let q = window_parts p s.used 0 (omega arith) (omega (arith, s.is)) in absurd (omega (arith, q.1))
   window_case j (window n o m) {p} s h =
       let u = s.used in
+      let f = first_shown u in
       let b = s.table.bounded in
-      let c = window_parts p b u 1 (omega arith) s.is in
+      let c = window_parts p u 1 (omega arith) s.is in
       let side : j ≡ c.0 = omega (arith, c.1) in
       let q = window_inside b u in
       let is : get_or ns (row_at (node_of p) + (left_column + 5 * j) + side_len_column) 0 ≡ m =
-      rw (side, ← c.3) (ap (λ (x : Shown). x.len) (shown_is s.table u.of) ∙ u.outputs) in
+      rw (side, ← c.3) ((numbers s.table f.of).1 ∙ (shows_parts t n o m f.side f.is).2) in
       (omega (arith, is, q.1, b.short n q.0), rw is (window_steps t n o m))
 
   -- The first column of a window.
@@ -136,4 +136,4 @@ module _ {ns : List ℕ} {t : List Node} where
   unfolding Used slot
   zero_case (real n v) s low a b = let q = real_parts s in absurd (omega (arith, q.1, q.2))
   zero_case (window_zero n o m) {p} s low a b = zero_steps t n o m
-  zero_case (window n o m) {p} s low a b = let q = window_parts p s.table.bounded s.used 1 (omega arith) s.is in absurd (omega (arith, q.1, q.2))
+  zero_case (window n o m) {p} s low a b = let q = window_parts p s.used 1 (omega arith) s.is in absurd (omega (arith, q.1, q.2))

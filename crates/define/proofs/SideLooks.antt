@@ -90,7 +90,7 @@ module _ {ns : List ℕ} (s : Shown) (a : ℕ) where
     window_looks d p x = record {
       does = λ c t u l q st.
           let e = q.shown.length in
-          rw (side_keys_lem t s.side a d (omega (arith, long, e)) p, ← e) (x.does c t u l (record { shown = q.shown; long = long }) st);
+          rw (side_keys_lem t s.side a d (omega (arith, long, e)) p, ← e) (x.does c t u l (record { shown = q.shown; window = p; long = long }) st);
       onward = x.onward;
     }
 

@@ -9,9 +9,9 @@ use Rattle.totdb.specs.Nodes.{Node, node_at, len, side_len}
 use Rattle.totdb.specs.declared.Side.{Side}
 use Rattle.cert.specs.Definitions.{Key, real, window_zero, window}
 use Rattle.cert.proofs.Fits.{KeyFits}
-use Rattle.rows.specs.Windows.{SideAt, at_left, at_right, window_at}
+use Rattle.rows.specs.Windows.{SideAt, at_left, at_right, Showing, window_at}
 use Rattle.rows.specs.Rows.{Bounded}
-use Rattle.rows.proofs.Sides.{side_inside, window_own}
+use Rattle.rows.proofs.Sides.{side_inside, shows_parts, window_first}
 use Rattle.define.specs.Store.{WindowOf, Used, slot}
 use Rattle.define.specs.Lookups.{RealOf}
 
@@ -55,15 +55,33 @@ one_side {t} x y = go x y refl
     go (at_left n ls o l r h e) (at_right i ks q a b g f) z = absurd (omega arith)
     go (at_right n ls o l r h e) (at_left i ks q a b g f) z = absurd (omega arith)
 
+-- The place of a window is that of the first side that shows it.
+pub first_shown : {t : List Node} {n f m : ℕ} → WindowOf t n f m → Showing t n f m (window_at t n f m)
+first_shown w = window_first _ _ _ _ w.shown
+
+first_place : {t : List Node} {n f m : ℕ} → WindowOf t n f m → WindowPlace t (window_at t n f m)
+first_place w = window_place (first_shown w).of
+
+-- Windows with one place are one.
+one_window : {t : List Node} {n f m i g l : ℕ} → WindowOf t n f m → WindowOf t i g l → window_at t n f m ≡ window_at t i g l
+    → (n ≡ i) × (f ≡ g) × (m ≡ l)
+one_window {t} {n} {f} {m} {i} {g} {l} w u e =
+    let x = first_shown w in
+    let y = first_shown u in
+    let s = one_side x.of (subst (λ (p : ℕ). SideAt t y.row p y.side) (sym e) y.of) in
+    let a = shows_parts t n f m x.side x.is in
+    let c = shows_parts t i g l y.side y.is in (
+      sym a.0 ∙ ap (λ (x : Side). x.node) s ∙ c.0,
+      sym a.1 ∙ ap (λ (x : Side). x.offset) s ∙ c.1,
+      sym a.2 ∙ ap (side_len t) s ∙ c.2,
+    )
+
 module _ {t : List Node} (b : Bounded t) where
   pub window_inside : {n f m : ℕ} → WindowOf t n f m → (n < length t) × (f + m ≤ len (node_at t n)) × (1 < m)
   window_inside w =
-      let q = side_inside b w.of in
-      rw (← w.node, ← w.offset, ← w.outputs) (q.0, q.1, rw w.outputs w.long)
-
-  -- Its place is its side's.
-  pub window_slot : {n f m : ℕ} (w : WindowOf t n f m) → window_at t n f m ≡ w.slot
-  window_slot w = rw (← w.node, ← w.offset, ← w.outputs) (window_own b w.of)
+      let q = side_inside b w.shown.of in
+      let e = shows_parts t _ _ _ w.shown.side w.shown.is in
+      rw (← e.0, ← e.1, ← e.2) (q.0, q.1, rw e.2 w.long)
 
   pub real_named : {n v : ℕ} → RealOf t n v → Named t (real n v)
   unfolding Used KeyFits
@@ -90,13 +108,9 @@ module _ {t : List Node} (b : Bounded t) where
   unfolding Used slot
   slot_row (real n v) u = record { node = n; there = u.0; above = omega arith; below = omega (arith, u.2, b.short n u.0) }
   slot_row (window_zero n f m) u =
-      let e = window_slot u in
-      let p = window_place u.of in
-      record { node = p.node; there = p.there; above = omega (arith, e, p.above); below = omega (arith, e, p.below) }
+      let p = first_place u in record { node = p.node; there = p.there; above = omega (arith, p.above); below = omega (arith, p.below) }
   slot_row (window n f m) u =
-      let e = window_slot u in
-      let p = window_place u.of in
-      record { node = p.node; there = p.there; above = omega (arith, e, p.above); below = omega (arith, e, p.below) }
+      let p = first_place u in record { node = p.node; there = p.there; above = omega (arith, p.above); below = omega (arith, p.below) }
 
   pub slot_inside : (k : Key) → Used t k → (store_start ≤ slot t k) × (slot t k < store_at (length t)) × (slot t k < 4294967296)
   slot_inside k u =
@@ -104,15 +118,6 @@ module _ {t : List Node} (b : Bounded t) where
       let n = r.node in
       let h = r.there in
       (omega (arith, r.above), omega (arith, h, r.below), omega (arith, h, r.below, b.few))
-
-  -- Two windows with one place are one.
-  same_window : {n f m i g l : ℕ} (w : WindowOf t n f m) (u : WindowOf t i g l) → w.slot ≡ u.slot → (n ≡ i) × (f ≡ g) × (m ≡ l)
-  same_window w u e =
-      let s = one_side w.of (subst (λ (p : ℕ). SideAt t u.row p u.side) (sym e) u.of) in (
-        sym w.node ∙ ap (λ (x : Side). x.node) s ∙ u.node,
-        sym w.offset ∙ ap (λ (x : Side). x.offset) s ∙ u.offset,
-        sym w.outputs ∙ ap (side_len t) s ∙ u.outputs,
-      )
 
   pub slot_once : (j k : Key) → Used t j → Used t k → slot t j ≡ slot t k → j ≡ k
   unfolding Used slot
@@ -123,31 +128,21 @@ module _ {t : List Node} (b : Bounded t) where
       let q : v ≡ w = omega (arith, u.2, x.2, a, c) in
       cc
   slot_once (window_zero n f m) (window_zero i g l) u x e =
-      let z = same_window u x (sym (window_slot u) ∙ e ∙ window_slot x) in
+      let z = one_window u x e in
       let p = z.0 in
       let q = z.1 in
       let r = z.2 in
       cc
   slot_once (window n f m) (window i g l) u x e =
-      let y : u.slot ≡ x.slot = omega (arith, window_slot u, window_slot x) in
-      let z = same_window u x y in
+      let y : window_at t n f m ≡ window_at t i g l = omega arith in
+      let z = one_window u x y in
       let p = z.0 in
       let q = z.1 in
       let r = z.2 in
       cc
-  slot_once (real n v) (window_zero i g l) u x e =
-      let p = window_place x.of in absurd (omega (arith, u.2, b.short n u.0, window_slot x, p.is, p.above, p.below))
-  slot_once (real n v) (window i g l) u x e =
-      let p = window_place x.of in absurd (omega (arith, u.2, b.short n u.0, window_slot x, p.is, p.above, p.below))
-  slot_once (window_zero i g l) (real n v) x u e =
-      let p = window_place x.of in absurd (omega (arith, u.2, b.short n u.0, window_slot x, p.is, p.above, p.below))
-  slot_once (window i g l) (real n v) x u e =
-      let p = window_place x.of in absurd (omega (arith, u.2, b.short n u.0, window_slot x, p.is, p.above, p.below))
-  slot_once (window_zero n f m) (window i g l) u x e =
-      let p = window_place u.of in
-      let q = window_place x.of in
-      absurd (omega (arith, window_slot u, window_slot x, p.is, q.is))
-  slot_once (window n f m) (window_zero i g l) u x e =
-      let p = window_place u.of in
-      let q = window_place x.of in
-      absurd (omega (arith, window_slot u, window_slot x, p.is, q.is))
+  slot_once (real n v) (window_zero i g l) u x e = let p = first_place x in absurd (omega (arith, u.2, b.short n u.0, p.is, p.above, p.below))
+  slot_once (real n v) (window i g l) u x e = let p = first_place x in absurd (omega (arith, u.2, b.short n u.0, p.is, p.above, p.below))
+  slot_once (window_zero i g l) (real n v) x u e = let p = first_place x in absurd (omega (arith, u.2, b.short n u.0, p.is, p.above, p.below))
+  slot_once (window i g l) (real n v) x u e = let p = first_place x in absurd (omega (arith, u.2, b.short n u.0, p.is, p.above, p.below))
+  slot_once (window_zero n f m) (window i g l) u x e = absurd (omega (arith, (first_place u).is, (first_place x).is))
+  slot_once (window n f m) (window_zero i g l) u x e = absurd (omega (arith, (first_place u).is, (first_place x).is))

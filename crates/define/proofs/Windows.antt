@@ -14,14 +14,14 @@ use Rattle.cert.specs.State.{State, from_in, step_in}
 use Rattle.rows.specs.Rows.{Bounded}
 use Rattle.rows.specs.declared.Shown.{Shown}
 use Rattle.rows.proofs.Reading.{from_first_lem}
-use Rattle.rows.proofs.Sides.{side_inside}
+use Rattle.rows.proofs.Sides.{side_inside, side_shows}
 use Rattle.window.specs.Window.{Handed, Bounds}
 use Rattle.define.specs.Store.{WindowOf, Used, slot}
 use Rattle.define.specs.Represents.{Memory, Exact, Represents, exact}
 use Rattle.define.specs.Lookups.{WindowIn, SideWindowWith, SideWindow, Several}
 use Rattle.define.proofs.Defines.{few_steps, step_after_lem}
 use Rattle.define.proofs.Simulates.{store_room}
-use Rattle.define.proofs.Slots.{window_slot, zero_named, window_named, slot_inside}
+use Rattle.define.proofs.Slots.{zero_named, window_named, slot_inside}
 
 -- ---- values of a range
 
@@ -60,16 +60,7 @@ module _ (first f m : ℕ) where
 
 module _ {t : List Node} (b : Bounded t) (s : Shown) (w : SideWindow t s) where
   pub window_of : WindowOf t s.side.node s.side.offset s.len
-  window_of = record {
-    row = w.shown.row;
-    slot = s.window;
-    side = s.side;
-    of = w.shown.of;
-    node = refl;
-    offset = refl;
-    outputs = sym w.shown.length;
-    long = w.long;
-  }
+  window_of = record { slot = w.shown.slot; shown = rw w.shown.length (side_shows w.shown.of); long = w.long }
 
   pub window_fits : (s.side.node < length t) × (s.side.offset + s.len ≤ len (node_at t s.side.node))
   window_fits =
@@ -78,8 +69,8 @@ module _ {t : List Node} (b : Bounded t) (s : Shown) (w : SideWindow t s) where
 
   pub window_slots : (slot t (window_zero s.side.node s.side.offset s.len) ≡ s.window)
       × (slot t (window s.side.node s.side.offset s.len) ≡ s.window + 1)
-  unfolding slot window_of
-  window_slots = let e = window_slot b window_of in (e, rw e)
+  unfolding slot
+  window_slots = let e = sym (rw (← w.shown.length) at (w.shown.window w.window)) in (e, rw e)
 
   first_low : s.first ≤ 2 ^ 30
   first_low =

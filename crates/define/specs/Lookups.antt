@@ -6,7 +6,7 @@ use Rattle.totdb.specs.Nodes.{Node, node_at, leaves, len, output, outputs, outpu
 use Rattle.cert.specs.Definitions.{Key}
 use Rattle.cert.specs.State.{State, keys}
 use Rattle.rows.specs.Rows.{ShownOf}
-use Rattle.rows.specs.Windows.{window_at}
+use Rattle.rows.specs.Windows.{IsWindow, window_at}
 use Rattle.rows.specs.declared.Shown.{Shown}
 use Rattle.define.specs.Store.{WindowOf}
 
@@ -29,9 +29,10 @@ pub record SideIn (t : List Node) (s : Shown) (a : ℕ) : Type 0 where
   pub shown : ShownOf t s
   pub value : a ≤ s.len + 1
 
--- A side of two values or more, whose window is looked up.
+-- A window of two values or more, which is looked up.
 pub record SideWindow (t : List Node) (s : Shown) : Type 0 where
   pub shown : ShownOf t s
+  pub window : IsWindow s.side
   pub long : 1 < s.len
 
 -- The same, with the output list of its node.

@@ -4,13 +4,12 @@ use Rattle.std.proofs.Math.Logic.{dite}
 use Rattle.sizes.specs.Sizes.{width, trail, marks_at, step_at, clauses_at, store_at, held_at}
 use Rattle.memo.specs.Visit.{dec_memᴰ}
 use Rattle.record.specs.Record.{clauses}
-use Rattle.totdb.specs.Nodes.{Node, leaf, join, node_at, len, side_len}
-use Rattle.totdb.specs.declared.Side.{Side}
+use Rattle.totdb.specs.Nodes.{Node, leaf, join, node_at, len}
 use Rattle.cert.specs.Definitions.{Direction, if, only_if, Key, real, window_zero, window}
 use Rattle.cert.specs.Equal.{request_dec}
 use Rattle.cert.specs.Requests.{Request, request}
 use Rattle.cert.specs.State.{State, Stored, from_in}
-use Rattle.rows.specs.Windows.{SideAt, window_at}
+use Rattle.rows.specs.Windows.{Showing, window_at}
 use Rattle.derivation.specs.Operands.{step_after, next_step}
 
 -- ---- first steps
@@ -24,13 +23,8 @@ slot t (window n f m) = window_at t n f m + 1
 
 -- A window that a side shows.
 pub record WindowOf (t : List Node) (n f m : ℕ) : Type 0 where
-  pub row : ℕ
   pub slot : ℕ
-  pub side : Side
-  pub of : SideAt t row slot side
-  pub node : side.node ≡ n
-  pub offset : side.offset ≡ f
-  pub outputs : side_len t side ≡ m
+  pub shown : Showing t n f m slot
   pub long : 1 < m
 
 -- A key that has a place: of a node with two values or more, or of a window that a side shows.

@@ -16,7 +16,7 @@ use Rattle.cert.proofs.Rules.{at_more, side_len-more}
 use Rattle.cert.proofs.Tables.{at_snoc, length_snoc, old_or_new, sized_snoc}
 use Rattle.rows.specs.Windows.{SideAt, at_left, at_right}
 use Rattle.rows.specs.Rows.{row_of, SideRow, KindOf, Row, read_leaf, NodesIn, Bounded, Table}
-use Rattle.rows.proofs.Sides.{side_inside, shows_self, window_more}
+use Rattle.rows.proofs.Sides.{side_inside, side_shows, window_more}
 
 -- ---- sides
 
@@ -64,11 +64,11 @@ bounded_snoc t x b next = record {
 
 module _ (t : List Node) (x : Node) (b : Bounded t) where
   side_kept : {r : List ℕ} {q w : ℕ} {s : Side} (p : ℕ) → SideAt t q w s → SideRow r t p s → SideRow r (t ++ (x ∷ [])) p s
-  side_kept {q = q} {s = s} p of old = record {
+  side_kept {s = s} p of old = record {
     is = old.is;
     length = old.length ∙ side_len-more t (x ∷ []) s (side_inside b of).0;
     window = λ y. old.window y
-        ∙ rw (← side_len-more t (x ∷ []) s (side_inside b of).0) (sym (window_more b (x ∷ []) (record { row = q; side = s; of = of; is = shows_self t s })));
+        ∙ rw (← side_len-more t (x ∷ []) s (side_inside b of).0) (sym (window_more b (x ∷ []) (side_shows of)));
   }
 
   kind_kept : (r : List ℕ) (n : ℕ) → n < length t → (a : Node) → node_at t n ≡ a → KindOf r t a → KindOf r (t ++ (x ∷ [])) a

@@ -32,9 +32,12 @@ module _ {t : List Node} (b : Bounded t) where
 
 -- ---- what a side shows
 
-pub shows_self : (t : List Node) (s : Side) → shows t s.node s.offset (side_len t s) s ≡ true
+shows_self : (t : List Node) (s : Side) → shows t s.node s.offset (side_len t s) s ≡ true
 unfolding shows
 shows_self t s = rw (eq-eqb s.node s.node refl, eq-eqb s.offset s.offset refl, eq-eqb (side_len t s) (side_len t s) refl)
+
+pub side_shows : {t : List Node} {p w : ℕ} {s : Side} → SideAt t p w s → Showing t s.node s.offset (side_len t s) w
+side_shows {t} {s = s} of = record { row = _; side = s; of = of; is = shows_self t s }
 
 pub shows_parts : (t : List Node) (n f m : ℕ) (s : Side) → shows t n f m s ≡ true → (s.node ≡ n) × (s.offset ≡ f) × (side_len t s ≡ m)
 unfolding shows

@@ -25,7 +25,8 @@ returns-then-is_plain c = λ t es r.
 pub window_definition-requires : goal.window_definition-requires
 window_definition-requires c =
     let k = keyed_in c.requires.side_room.reach in
-    rw c.key-2.ensures (c.requires.side_room.window, k.0, k.1, c.requires.side_room.reach.offset)
+    let p = sym c.is_plain.ensures ∙ c.if-is_plain.false in
+    rw c.key-2.ensures (c.requires.side_room.window p, k.0, k.1, c.requires.side_room.reach.offset)
 
 pub returns : goal.returns
 returns c = λ t es r.

@@ -54,6 +54,11 @@ overflow_add-len c =
     let b = window_bounds c.before.requires.1.table.bounded c.before.requires.1.represents c.before.requires.1.holds.0.window in
     omega (arith, b.values)
 
+pub overflow_add-s : goal.overflow_add-s
+overflow_add-s c =
+    let b = window_bounds c.before.requires.1.table.bounded c.before.requires.1.represents c.before.requires.1.holds.0.window in
+    omega (arith, b.small)
+
 pub store_key-requires : goal.store_key-requires
 store_key-requires c =
     let b = window_bounds c.before.requires.1.table.bounded c.before.requires.1.represents c.before.requires.1.holds.0.window in

@@ -10,6 +10,21 @@ use Rattle.define.proofs.Windows.{window_of, window_slots, window_in, window_sev
 use Rattle.define.proofs.look_up_window.Goals.{then-log-at-via-then-log-at, then-log-at-via-else-log-at+then-store-slot-ne0}
 use Rattle.define.proofs.look_up_window.Goals as goal
 
+pub overflow_add-slot : goal.overflow_add-slot
+overflow_add-slot c =
+    let b = window_bounds c.requires.table.bounded c.requires.represents c.requires.holds in
+    omega (arith, b.small, b.inside)
+
+pub offset_bounds-store-slot : goal.offset_bounds-store-slot
+offset_bounds-store-slot c =
+    let b = window_bounds c.requires.table.bounded c.requires.represents c.requires.holds in
+    omega (arith, b.small, b.inside)
+
+pub bounds-store-slot : goal.bounds-store-slot
+bounds-store-slot c =
+    let b = window_bounds c.requires.table.bounded c.requires.represents c.requires.holds in
+    omega (arith, b.small, b.inside)
+
 pub returns-then-log-at : goal.returns-then-log-at
 returns-then-log-at c = elim c.then-log-at.branch [
   | then-log-at-via-then-log-at w ↦
