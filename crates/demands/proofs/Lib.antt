@@ -7,5 +7,6 @@ pub mod Needed
 pub mod Fields
 pub mod Windows
 pub mod Leaves
+pub mod Shared
 pub mod Cases
 pub mod Worked

@@ -1,4 +1,4 @@
--- The whole case of document 01, its cases marked (P), and those of document 02, §2 to §4, as one list: what the definitions give, and what
+-- The whole case of document 01, its cases marked (P), and those of document 02, §2 to §5, as one list: what the definitions give, and what
 -- the documents say.
 use Rattle.std.specs.Prelude.{List, [], ◌∷◌, ◌++◌, ℕ, zero, suc, ◌+◌, ◌*◌, length, take, replicate}
 use Rattle.std.proofs.Math.Option.{Option, none, some}
@@ -9,15 +9,18 @@ use Rattle.record.specs.Steps.{step_of, defined}
 use Rattle.totdb.specs.Nodes.{Node}
 use Rattle.totdb.specs.Leaves.{LeafEntry, node_found, looked_at, lookup_in, lookup_leaf}
 use Rattle.totdb.specs.declared.LeafLookup.{LeafLookup}
+use Rattle.totdb.specs.declared.Side.{Side}
 use Rattle.cert.specs.Definitions.{if}
 use Rattle.cert.specs.Requests.{Request, request}
 use Rattle.cert.specs.Totalizer.{totalizer, dependencies}
 use Rattle.player.specs.Called.{table}
-use Rattle.player.specs.Player.{played}
+use Rattle.player.specs.Player.{first_no, questions, played}
 use Rattle.player.specs.Script.{script, headless, read_script}
+use Rattle.player.specs.declared.Command.{Command}
 
 -- What is worked out: an outcome (its six numbers and the log), a number read, what a step of a log comes to, how many sums a log defines, what a
--- request needs below and its clauses, or which node the lookup of a leaf finds and how many leaves it looks at.
+-- request needs below and its clauses, which node the lookup of a leaf finds and how many leaves it looks at, or which question is the first that a
+-- command does not pass.
 pub data Value : Type 0 where
   answer : ℕ → ℕ → ℕ → ℕ → ℕ → ℕ → List ℕ → Value
   reading : Front → Value
@@ -25,6 +28,7 @@ pub data Value : Type 0 where
   sums : Option ℕ → Value
   needed : List Request → List (List ℕ) → Value
   looks_up : Option ℕ → ℕ → Value
+  question : ℕ → Value
 
 pub record Case : Type 0 where
   pub got : Value
@@ -66,6 +70,11 @@ comes_upon r n k = record { got = looks_up (node_found r) (looked_at r); want = 
 unfoldable looks : List ℕ → ℕ → Option ℕ → ℕ → Case
 unfolding nodes_of lookup_leaf comes_upon
 looks s l n k = comes_upon (lookup_leaf (nodes_of s) l) n k
+
+-- a command after the nodes of a script
+unfoldable asks : List ℕ → Command → ℕ → Case
+unfolding nodes_of first_no questions
+asks s c n = record { got = question (first_no (questions (record { variable = 2; step = 1 }) (nodes_of s) c)); want = question n }
 
 -- two leaves and their join; with the request of value v in direction d
 unfoldable pair : ℕ → ℕ → List ℕ
@@ -109,6 +118,29 @@ unfoldable four_leaves : List LeafEntry
 four_leaves =
     record { literal = 4; node = 0 } ∷ record { literal = 3; node = 1 } ∷ record { literal = 4; node = 3 } ∷ record { literal = 9; node = 6 } ∷ []
 
+-- leaves 0 2 4 6 8; node 5 joins the first two, node 6 that and the third, which are three outputs
+unfoldable leg : List ℕ
+leg = 5 ∷ 1 ∷ 1 ∷ 0 ∷ 1 ∷ 2 ∷ 1 ∷ 4 ∷ 1 ∷ 6 ∷ 1 ∷ 8 ∷ 2 ∷ 0 ∷ 0 ∷ 0 ∷ 1 ∷ 0 ∷ 0 ∷ 2 ∷ 5 ∷ 0 ∷ 0 ∷ 2 ∷ 0 ∷ 0 ∷ []
+
+-- node 7 joins node 6, with offset f and limit k, and the fourth leaf; node 8 joins node 6, with offset g and limit j, and the fifth; of both value 2 in
+-- both directions
+unfoldable relay : ℕ → ℕ → ℕ → ℕ → List ℕ
+unfolding leg
+relay f k g j = leg ++ (2 ∷ 6 ∷ f ∷ k ∷ 3 ∷ 0 ∷ 0 ∷ 2 ∷ 6 ∷ g ∷ j ∷ 4 ∷ 0 ∷ 0 ∷ 3 ∷ 7 ∷ 2 ∷ 3 ∷ 3 ∷ 8 ∷ 2 ∷ 3 ∷ [])
+
+-- the join of two plain sides
+unfoldable joins : ℕ → ℕ → List ℕ
+joins n m = 2 ∷ n ∷ 0 ∷ 0 ∷ m ∷ 0 ∷ 0 ∷ []
+
+-- n joins of two leaves
+unfoldable again : ℕ → List ℕ
+unfolding joins
+again zero = 2 ∷ 1 ∷ 1 ∷ 0 ∷ 1 ∷ 2 ∷ []
+again (suc n) = again n ++ joins 0 1
+
+unfoldable plain : ℕ → Side
+plain n = record { node = n; offset = 0; limit = 0 }
+
 -- 100,000,000, and one more
 unfoldable most : List ℕ
 most = 0x80 ∷ 0xc2 ∷ 0xd7 ∷ 0x2f ∷ []
@@ -117,7 +149,7 @@ unfoldable over : List ℕ
 over = 0x81 ∷ 0xc2 ∷ 0xd7 ∷ 0x2f ∷ []
 
 unfoldable pub cases : List Case
-unfolding most over plays reads steps_to defines calls_for comes_upon looks lookup_in pair limited_pair pair_log tree window sixty_four four_leaves
+unfolding most over plays reads steps_to defines calls_for comes_upon looks lookup_in asks pair limited_pair pair_log tree window sixty_four four_leaves leg relay joins again plain
 cases =
     -- the whole case; with a log one byte too short; the sums it defines; what its request calls for
     plays (pair 1 1) 46 (answer 0 4 46 4 2 3 pair_log)
@@ -172,6 +204,23 @@ cases =
     ∷ comes_upon (lookup_in four_leaves 1) none 4
     ∷ comes_upon (lookup_in four_leaves 4) (some 3) 2
     ∷ comes_upon (lookup_in four_leaves 8) none 4
+    -- document 02, §5: node 6 under two joins, through one window, by its limit or not; through two; through a window and plain
+    ∷ defines (relay 1 2 1 0) 506 19
+    ∷ defines (relay 1 0 0 2) 604 28
+    ∷ defines (relay 1 0 0 0) 506 19
+    -- a leaf below both sides; one node twice; a node and one under it, through a window that hides its leaf or not; a node that is not there goes first
+    ∷ plays (leg ++ (joins 5 2 ++ joins 6 3 ++ joins 7 8)) 0 (answer 9 10 0 0 0 9 [])
+    ∷ plays (leg ++ joins 6 6) 0 (answer 9 8 0 0 0 7 [])
+    ∷ plays (leg ++ (2 ∷ 6 ∷ 2 ∷ 0 ∷ 0 ∷ 0 ∷ 0 ∷ [])) 0 (answer 9 8 0 0 0 7 [])
+    ∷ plays (leg ++ (2 ∷ 6 ∷ 2 ∷ 0 ∷ 3 ∷ 0 ∷ 0 ∷ 2 ∷ 7 ∷ 0 ∷ 0 ∷ 5 ∷ 3 ∷ 0 ∷ [])) 0 (answer 9 9 0 0 0 8 [])
+    ∷ plays (leg ++ joins 6 7) 0 (answer 8 8 0 0 0 7 [])
+    -- 255 joins pass, the 256th does not; 9 is put before 15, and 15 before 10
+    ∷ plays (again 256) 0 (answer 15 258 0 0 0 257 [])
+    ∷ asks (again 254) (Command.Join (plain 0) (plain 1)) 0
+    ∷ asks (again 255) (Command.Join (plain 0) (plain 1)) 15
+    ∷ asks (again 255) (Command.Join (plain 256) (plain 1)) 9
+    ∷ asks (again 255) (Command.Join (plain 0) (record { node = 1; offset = 1; limit = 0 })) 15
+    ∷ asks (again 254) (Command.Join (plain 0) (record { node = 1; offset = 1; limit = 0 })) 10
     -- three outputs (literals 12 14 16), offset 1: if and only-if of 2, if and only-if of 3
     ∷ steps_to window 252 15 (some ((1 · 14 ∷ 1 · 17 ∷ []) ≥ 1))
     ∷ steps_to window 252 16 (some ((1 · 16 ∷ []) ≥ 0))

@@ -3,4 +3,5 @@ pub mod Needed
 pub mod Fields
 pub mod Windows
 pub mod Leaves
+pub mod Shared
 pub mod Cases
