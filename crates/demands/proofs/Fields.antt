@@ -91,7 +91,7 @@ three e (no_2_code r some none) = absurd (omega arith)
 three e (no_4 r k m) = absurd (omega arith)
 three e (no_5 r k unclosed o) = absurd (omega arith)
 three e (no_2 r k unclosed i j none) = absurd (omega arith)
-three e (no_more r unclosed k f) = ⊎_elim (λ l. absurd (omega (arith, l, e))) (λ l. absurd (omega (arith, l, e))) (number_used (first_holds f))
+three e (no_more r unclosed k f) = absurd (omega (arith, (number_used (first_holds f)).0, e))
 three e (passed r) = absurd (omega arith)
 
 -- ---- the claim

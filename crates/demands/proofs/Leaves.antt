@@ -18,8 +18,7 @@ use Rattle.cert.specs.State.{State, Head}
 use Rattle.player.specs.Player.{act, make}
 use Rattle.player.specs.Verdict.{own_literal, leaf_literals, Reached}
 use Rattle.player.specs.declared.Command.{Command}
-use Rattle.player.proofs.Formed.{formed_start, all_formed}
-use Rattle.player.proofs.Judged.{reached_all}
+use Rattle.player.proofs.Judged.{reached_sound}
 use Rattle.demands.specs.Leaves.{FromTheNewest}
 
 -- ---- any table
@@ -66,7 +65,7 @@ leaf_node (join ls o a b ∷ t) l m = let r = leaf_node t l m in (suc r.0, omega
 
 module _ {bs : List ℕ} {capacity : ℕ} {h : Head} {cs : List Command} {s : State} {rest : List ℕ} (r : Reached bs capacity h cs s rest) where
   leaf_once : (l m n : ℕ) → m < length s.nodes → n < length s.nodes → node_at s.nodes m ≡ leaf l → node_at s.nodes n ≡ leaf l → m ≡ n
-  leaf_once l m n i j p q = let k = reached_all r in (all_formed k.3 (formed_start h k.2)).sound.numbered.leaf_once m n l i j p q
+  leaf_once l m n i j p q = (reached_sound r).numbered.leaf_once m n l i j p q
 
   -- No leaf made after one has its literal.
   absent_after : (l n : ℕ) → n < length s.nodes → node_at s.nodes n ≡ leaf l → Memᴰ l (leaf_literals (drop (suc n) s.nodes)) → ⊥

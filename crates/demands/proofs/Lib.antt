@@ -10,3 +10,4 @@ pub mod Leaves
 pub mod Shared
 pub mod Cases
 pub mod Worked
+pub mod WorkedShared

@@ -1,29 +1,37 @@
 -- Document 02, §7: no command of any script needs an if at value 0 or an only-if above a length, and no outcome has the number 13.
 use mathlib.Core.Path.{◌≡◌, refl, sym, subst}
-use mathlib.Core.Logic.{◌≢◌, ⊎_elim}
+use mathlib.Core.Logic.{◌≢◌}
 use mathlib.Core.List.Memᴰ
 use mathlib.Core.List.{List, [], Memᴰ}
-use Prim.Native.Nat.{ℕ, zero, suc, ◌≤◌}
+use Prim.Native.Nat.{ℕ, zero, suc}
+use native.Mathlib.Decide.{ℕ_discrete}
 use native.Mathlib.Omega.{arith}
 use Rattle.cert.specs.Requests.{clauses_of, looked_up}
 use Rattle.cert.specs.State.{State, Head}
+use Rattle.cert.proofs.Rules.{Ok}
 use Rattle.cert.proofs.Available.{clause_available, pulled_available}
 use Rattle.cert.proofs.Lookups.{used_are}
+use Rattle.player.specs.Formed.{Formed}
 use Rattle.player.specs.Player.{first_no, questions, act}
 use Rattle.player.specs.Verdict.{No, order, First, Reached, at_head, one_more, Verdict, no_1, no_2_head, no_3, no_2_code, no_4, no_5, no_2, no_more, passed}
 use Rattle.player.specs.declared.Command.{Command}
 use Rattle.player.proofs.Formed.{formed_start, formed_act, all_formed}
-use Rattle.player.proofs.Judged.{reached_all, verdict_of, verdict_used, number_used}
-use Rattle.player.proofs.Questions.{asked_none, none_asked, questions_most, refused_exactly}
+use Rattle.player.proofs.Judged.{reached_all, reached_ok, verdict_of, verdict_used}
+use Rattle.player.proofs.Questions.{asked_none, none_asked, questions_asked, refused_exactly}
 use Rattle.player.proofs.Plays.{play_stops}
 use Rattle.demands.specs.Needed.{Acts, DeskCard}
+
+-- What holds of every state of a script.
+pub reached_formed : {bs : List ℕ} {capacity : ℕ} {h : Head} {cs : List Command} {s : State} {rest : List ℕ} → Reached bs capacity h cs s rest
+    → Formed h s
+reached_formed {h = h} r = let a = reached_all r in all_formed a.3 (formed_start h a.2)
 
 pub desk_card : DeskCard
 desk_card = record {
   needed = λ bs capacity c s a.
-      let r = reached_all a.reached in
-      let asked = none_asked a.head capacity s c (λ n l p. omega (arith, l, a.asked n p)) in
-      let f = formed_act a.head c s asked (all_formed r.3 (formed_start a.head r.2)) in
+      let g = reached_formed a.reached in
+      let asked = none_asked a.head capacity s (reached_ok a.reached) c (λ n l p. l (a.asked n p)) in
+      let f = formed_act a.head c s asked g in
       let t = (act c s).nodes in
       record {
         listed = λ x i. used_are t x (f.held x i);
@@ -32,7 +40,7 @@ desk_card = record {
             clause_available t x k.0 (f.held x i) k.1 l (subst (Memᴰ l) (sym k.2) j);
         windows = λ x c k n v d i m g p. pulled_available t f.sound.sized x c k n v d (f.held x i) m g p;
       };
-  unused = λ bs capacity w e. ⊎_elim (λ l. omega (arith, l, e)) (λ l. omega (arith, l, e)) (verdict_used (verdict_of bs capacity w).1);
+  unused = λ bs capacity w. (verdict_used (verdict_of bs capacity w).1).1;
 }
 
 -- ---- which commands act
@@ -66,16 +74,23 @@ full_acts {capacity = capacity} {s = s} e (no_more {h = h} {cs = cs} {rest = res
     reached = r;
     unclosed = unclosed;
     reads = k;
-    asked = λ n p. ⊎_elim (λ l. absurd (none e f (first_no (questions h s.nodes c)) refl n l.1 p)) (λ q. q) (number_used p);
+    asked = λ n p. by n (ℕ_discrete n 14) p;
   },
 )
   where
+    ok : Ok s.nodes
+    ok = reached_ok r
+
     none : {m : ℕ} → m ≡ 14 → First (No h capacity s c) order m → (j : ℕ) → first_no (questions h s.nodes c) ≡ j
-        → (n : ℕ) → n ≤ 12 → No h capacity s c n → ⊥
-    none g q zero a n l p = asked_none h capacity s c a n l p
+        → (n : ℕ) → n ≢ 14 → No h capacity s c n → ⊥
+    none g q zero a n l p = asked_none h capacity s ok c a n l p
     none {m} g q (suc j) a n l p =
-        let k = (refused_exactly h capacity s c m).1 q in
+        let k = (refused_exactly h capacity s ok c m).1 q in
         let i = play_stops h capacity c s (suc j) (omega arith) a in
         let z : m ≡ suc j = cc in
-        omega (arith, questions_most h s.nodes c, a)
+        omega (arith, g, questions_asked h s.nodes c, a)
+
+    by : (n : ℕ) → Dec (n ≡ 14) → No h capacity s c n → n ≡ 14
+    by n (yes q) p = q
+    by n (no l) p = absurd (none e f (first_no (questions h s.nodes c)) refl n l p)
 full_acts e (passed r) = absurd (omega arith)

@@ -1,19 +1,16 @@
 -- Document 02, §5: a node may stand under any number of joins, and each clause is written once.
 use mathlib.Core.Path.{◌≡◌, refl, sym, ◌∙◌, ap, subst}
 use mathlib.Core.Bool.{true, false}
-use mathlib.Core.Logic.{◌≢◌, inl, inr, ⊎_elim}
+use mathlib.Core.Logic.{◌≢◌, ◌⊎◌, ⊎_elim}
 use mathlib.Core.List.Memᴰ
-use mathlib.Core.List.{List, [], ◌∷◌, map, head-eq_of_cons-eq, Memᴰ, Nodup, Nodup-nil}
-use Prim.Native.Nat.{ℕ, zero, suc, ◌+◌, ◌-◌, ◌≤◌, ◌<◌}
-use native.Mathlib.Decide.{dec_le}
+use mathlib.Core.List.{List, ◌∷◌, map, head-eq_of_cons-eq, Memᴰ, Nodup, Nodup-nil}
+use Prim.Native.Nat.{ℕ, zero, suc, ◌+◌, ◌≤◌, ◌<◌}
 use native.Mathlib.Omega.{arith}
 use lib.ListN.{length, take, length-map}
 use Rattle.std.proofs.Math.Option.{some-injective}
-use Rattle.number.specs.Number.{Bytes}
 use Rattle.memo.proofs.Lists.{length_subset}
 use Rattle.record.specs.Record.{Record, bytes, clauses}
 use Rattle.totdb.specs.Nodes.{Node, node_at, leaves, len, output, outputs, range, side_len, keyed, side_outputs, plain_or, leaf_count}
-use Rattle.totdb.specs.Below.{leaves_below}
 use Rattle.totdb.specs.declared.Side.{Side}
 use Rattle.totdb.proofs.Listed.{length_range}
 use Rattle.cert.specs.Definitions.{Direction, Key, window, side_def}
@@ -28,22 +25,23 @@ use Rattle.cert.proofs.OneWindow.{same_window}
 use Rattle.cert.proofs.Rules.{Ok}
 use Rattle.player.specs.Formed.{Formed}
 use Rattle.player.specs.Passes.{AllPassed}
-use Rattle.player.specs.Player.{make, act, played}
-use Rattle.player.specs.Verdict.{Below, joins, OffNode, offset_high, limit_high, No, no_8_join, no_9, no_15, no_10, no_14, Reached}
+use Rattle.player.specs.Player.{make, act}
+use Rattle.player.specs.Verdict.{Below, joins, OffNode, No, no_8_join, no_9, no_15, no_10, no_14, Reached}
 use Rattle.player.specs.declared.Command.{Command}
 use Rattle.player.proofs.Below.{common_leaf, of_number}
-use Rattle.player.proofs.Decoded.{all_fit, start_empty}
+use Rattle.player.proofs.Decoded.{all_fit}
 use Rattle.player.proofs.Endings.{Led, nowhere, on}
 use Rattle.player.proofs.Defines.{all_told}
-use Rattle.player.proofs.Formed.{formed_start, all_formed}
 use Rattle.player.proofs.Judged.{reached_all, verdict_led}
 use Rattle.player.proofs.Limits.{few_nodes_lem}
 use Rattle.player.proofs.Matching.{clauses_once}
 use Rattle.player.proofs.Questions.{joins_counted}
+use Rattle.player.proofs.Plays.{start_empty}
 use Rattle.player.proofs.Sound.{side_in}
-use Rattle.demands.specs.Demands.{Holds, Demand1}
+use Rattle.demands.specs.Demands.{Demand1}
 use Rattle.demands.specs.Shared.{NoneBelow, Window, SharedIn, SharedNodes}
 use Rattle.demands.proofs.Demand1.{demand_1}
+use Rattle.demands.proofs.Needed.{reached_formed}
 
 -- ---- windows
 
@@ -99,9 +97,11 @@ module _ {h : Head} {s : State} (f : Formed h s) where
       let p : a.node ≡ b.node = cc in
       let q : a.offset ≡ b.offset = cc in
       let r : side_len nodes a ≡ side_len nodes b = cc in
-      ne (rw (p, q, r))
+      ne
+      (ap (λ (n : ℕ). outputs (node_at nodes n) a.offset (side_len nodes a)) p ∙ ap (λ (o : ℕ). outputs (node_at nodes b.node) o (side_len nodes a)) q
+      ∙ ap (outputs (node_at nodes b.node) b.offset) r)
 
--- ---- leaves below
+  -- ---- leaves below
 
   ok : Ok nodes
   ok = sized_ok nodes f.sound.sized
@@ -132,7 +132,7 @@ module _ {bs : List ℕ} {capacity : ℕ} {h : Head} {cs : List Command} {s : St
   all = (reached_all r).3
 
   formed : Formed h s
-  formed = all_formed all (formed_start h (reached_all r).2)
+  formed = reached_formed r
 
   told : Distinct s.nodes
   told = (all_told all).distinct
@@ -142,11 +142,12 @@ module _ {bs : List ℕ} {capacity : ℕ} {h : Head} {cs : List Command} {s : St
 
   joins_pass : (l r : Side) → l.node < length s.nodes → r.node < length s.nodes → NoneBelow s.nodes l.node r.node → length (joins s.nodes) < 255
       → (OffNode s.nodes l → ⊥) → (OffNode s.nodes r → ⊥) → (n : ℕ) → No h capacity s (Command.Join l r) n → ⊥
-  joins_pass l r i j none few on on' n (no_8_join p) = ⊎_elim (λ p. omega arith) (λ p. omega arith) p
-  joins_pass l r i j none few on on' n (no_9 {x = x} p q) = none x p q
-  joins_pass l r i j none few on on' n (no_15 p) = omega arith
-  joins_pass l r i j none few on on' n (no_10 p) = ⊎_elim on on' p
-  joins_pass l r i j none few on on' n (no_14 p) = omega (arith, unfold act make in p, written)
+  unfolding act make
+  joins_pass l r i j none few a b n (no_8_join p) = ⊎_elim (λ p. omega arith) (λ p. omega arith) p
+  joins_pass l r i j none few a b n (no_9 {x = x} p q) = none x p q
+  joins_pass l r i j none few a b n (no_15 p) = omega arith
+  joins_pass l r i j none few a b n (no_10 p) = ⊎_elim a b p
+  joins_pass l r i j none few a b n (no_14 p) = omega (arith, p, written)
 
   shared_in : SharedIn h capacity s s.nodes
   shared_in = record {
@@ -171,10 +172,11 @@ led_once (nowhere e) = rw e Nodup-nil
 led_once {capacity} {s} (on h cs f c a) = clauses_once h capacity cs s a
 
 pub shared_nodes : SharedNodes
+unfolding Demand1
 shared_nodes = record {
   nodes = λ bs capacity h cs s rest r. shared_in r;
   once = λ bs capacity rs w k.
-      let m = unfold Demand1 in demand_1 bs capacity w in
+      let m = demand_1 bs capacity w in
       let same = some-injective m.state.log rs (sym m.reports.holds.decodes ∙ k.decodes) in
       subst (λ (qs : List Record). Nodup (clauses qs)) same (led_once (verdict_led m.verdict));
 }

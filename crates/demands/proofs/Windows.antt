@@ -18,6 +18,8 @@ use Rattle.totdb.specs.Nodes.{Node, leaf, node_at, leaves, len, limit_over, plai
 use Rattle.totdb.specs.declared.Side.{Side}
 use Rattle.totdb.proofs.Sides.{limit_lower, whole_form}
 use Rattle.cert.specs.State.{State, start, Head}
+use Rattle.cert.proofs.Apart.{sized_ok}
+use Rattle.cert.proofs.Rules.{Ok}
 use Rattle.player.specs.Accepted.{Pointwise, pointwise_nil, pointwise_cons}
 use Rattle.player.specs.Called.{build, table}
 use Rattle.player.specs.Formed.{Sound}
@@ -82,21 +84,21 @@ module _ (h : Head) (u : List Node) (s : State) (alike : (n : ℕ) → n < lengt
       by true false e f = unfold questions first_no in rw (same_node x, same_node y, e, f)
       by false j e f = unfold questions first_no in rw (same_node x, e)
 
-  same_act : {c d : Command} → DropsCommand u c d → first_no (questions h s.nodes c) ≡ 0 → act d s ≡ act c s
+  same_act : Ok s.nodes → {c d : Command} → DropsCommand u c d → first_no (questions h s.nodes c) ≡ 0 → act d s ≡ act c s
   unfolding act joined
-  same_act unchanged q = refl
-  same_act (in_join {l} {r} {a} {b} x y) q =
+  same_act ok unchanged q = refl
+  same_act ok (in_join {l} {r} {a} {b} x y) q =
       let t = s.nodes in
       let o = s.next_variable in
-      let there = join_there h t l r q in
+      let there = join_there h t ok l r q in
       ap (λ (z : Node). make z (len z) s)
       (ap (λ (z : Side). join_of t o z (plain_form t b)) (same_form t u alike x there.0) ∙ ap (join_of t o (plain_form t l)) (same_form t u alike y there.1))
 
-  same_play : (capacity : ℕ) {c d : Command} → DropsCommand u c d → play h capacity d s ≡ play h capacity c s
-  same_play capacity {c} {d} x = by (first_no (questions h s.nodes c)) refl
+  same_play : Ok s.nodes → (capacity : ℕ) {c d : Command} → DropsCommand u c d → play h capacity d s ≡ play h capacity c s
+  same_play ok capacity {c} {d} x = by (first_no (questions h s.nodes c)) refl
     where
       by : (n : ℕ) → first_no (questions h s.nodes c) ≡ n → play h capacity d s ≡ play h capacity c s
-      by zero q = unfold play in rw (same_questions x ∙ q, q, play) (ap (fitted capacity) (same_act x q))
+      by zero q = unfold play in rw (same_questions x ∙ q, q, play) (ap (fitted capacity) (same_act ok x q))
       by (suc n) q = unfold play in rw (same_questions x ∙ q, q, play)
 
 -- ---- the commands as they are read
@@ -202,7 +204,7 @@ module _ (h : Head) (capacity : ℕ) (u : List Node) where
       ∙ ap (λ (z : Commands). going_on h capacity z p s) (sym on.2)
     where
       go_same : play h capacity d s ≡ play h capacity c s
-      go_same = same_play h u s (node_kept (c ∷ cs) s.nodes s.next_variable is) capacity x
+      go_same = same_play h u s (node_kept (c ∷ cs) s.nodes s.next_variable is) (sized_ok s.nodes sound.sized) capacity x
 
       by : (r : Result) → play h capacity c s ≡ r → (ys zs : Commands)
           → ((v : State) → Sound h v → u ≡ build cs v.nodes v.next_variable → going_on h capacity zs (suc p) v ≡ going_on h capacity ys (suc p) v)
@@ -225,7 +227,7 @@ module _ (h : Head) (capacity : ℕ) (u : List Node) where
   same_passed {s = s} (pointwise_cons {x = c} {y = d} {xs = cs} {ys = ds} x xs) sound is (all_more {u = w} q r) =
       let alike = node_kept (c ∷ cs) s.nodes s.next_variable is in
       let asked = sym (same_questions h u s alike x) ∙ q.asked in
-      let after = sym (same_act h u s alike x asked) ∙ q.after in
+      let after = sym (same_act h u s alike (sized_ok s.nodes sound.sized) x asked) ∙ q.after in
       all_more (record { asked = asked; after = after; fits = q.fits })
       (same_passed xs (subst (Sound h) after (sound_act h c s asked sound))
       (is ∙ sym (build_act h c cs s asked sound) ∙ ap (λ (z : State). build cs z.nodes z.next_variable) after) r)
@@ -423,7 +425,7 @@ passed_short {capacity} {h} {cs} {s} fits all n = by (dec_le (length s.nodes) n)
 
     by : Dec (length s.nodes ≤ n) → len (node_at (table h cs) n) < 128
     by (yes l) = rw (sym is) (none_short s.nodes n l)
-    by (no l) = rw (sym is) (omega (arith, (all_formed all (formed_start h fits)).treed.each n (omega (arith, l))))
+    by (no l) = rw (sym is) (omega (arith, (all_formed all (formed_start h fits)).limits.short n (omega (arith, l))))
 
 reached_as_long : {bs other : List ℕ} {capacity : ℕ} {s : State} (o : DropsLimits bs other)
     → Reached bs capacity o.head o.own s o.rest ⊎ Reached other capacity o.head o.others s o.rest → length other ≡ length bs

@@ -56,7 +56,7 @@ module _ (t : List Node) (ok : Ok t) where
       let a = lower h e in
       rw (below_join t n ls o l r h e a.0 a.1) (Memᴰ.append_right (leaves_below t l.node) (numbered b))
 
-  of_number : (k n : ℕ) → n < length t → Memᴰ k (leaves_below t n) → (x : ℕ) × Below t x n × (k ≡ leaf_count (take x t))
+  pub of_number : (k n : ℕ) → n < length t → Memᴰ k (leaves_below t n) → (x : ℕ) × Below t x n × (k ≡ leaf_count (take x t))
   of_number k =
       descend t ok (λ n. Memᴰ k (leaves_below t n) → (x : ℕ) × Below t x n × (k ≡ leaf_count (take x t)))
       (λ n l h e m. (n, itself h e, Memᴰ.eq_of_singleton (rw (below_leaf t n l h e) at m)))

@@ -360,7 +360,7 @@ all_low {h} b v l a = all_keep (Low h b) (low_act h b v l) a (sound_start h) (lo
 
 -- ---- the log reads back
 
-all_fit : {h : Head} {capacity : ℕ} {cs : List Command} {s u : State} → AllPassed h capacity cs s u → length (bytes s.log) ≤ capacity
+pub all_fit : {h : Head} {capacity : ℕ} {cs : List Command} {s u : State} → AllPassed h capacity cs s u → length (bytes s.log) ≤ capacity
     → length (bytes u.log) ≤ capacity
 all_fit all_done l = l
 all_fit (all_more q a) l = all_fit a q.fits

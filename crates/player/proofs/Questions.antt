@@ -149,7 +149,7 @@ shared_is t ok n m = by (share_leaf t n m) refl
     by false e =
         answer_yes (λ p. let k = common_number t ok n m p in true≢false (sym (meet_has (leaves_below t n) (leaves_below t m) k.0 k.1 k.2) ∙ e))
 
-joins_counted : (t : List Node) → length (joins t) ≡ join_count t
+pub joins_counted : (t : List Node) → length (joins t) ≡ join_count t
 unfolding joins own_join join_count flat_map
 joins_counted [] = refl
 joins_counted (leaf l ∷ t) = joins_counted t

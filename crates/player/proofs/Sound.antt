@@ -66,7 +66,7 @@ unfolding limited
 limited_fits f zero n h g = omega arith
 limited_fits f (suc k) n h g = omega arith
 
-side_in : (t : List Node) (s : Side) → (OffNode t s → ⊥) → (s.offset + side_len t s ≤ len (node_at t s.node)) × (s.offset < len (node_at t s.node))
+pub side_in : (t : List Node) (s : Side) → (OffNode t s → ⊥) → (s.offset + side_len t s ≤ len (node_at t s.node)) × (s.offset < len (node_at t s.node))
 unfolding side_len
 side_in t s on =
     let n : ℕ = len (node_at t s.node) in
