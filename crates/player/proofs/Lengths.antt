@@ -1,11 +1,10 @@
 -- Facts alike at several lengths, for a general one: values, windows, leaves and the log's length at their limits.
 use mathlib.Core.Path.{◌≡◌, refl, sym, ◌∙◌, ap, subst}
 use mathlib.Core.Bool.{Bool, true, false, ◌&&◌}
-use mathlib.Core.Logic.{◌≢◌}
 use mathlib.Core.List.{List, [], ◌∷◌, ◌++◌, map, flat_map}
-use Prim.Native.Nat.{ℕ, suc, ◌+◌, ◌-◌, ◌*◌, ◌≤◌, ◌<◌}
+use Prim.Native.Nat.{ℕ, zero, suc, ◌+◌, ◌-◌, ◌*◌, ◌≤◌, ◌<◌}
 use native.Mathlib.Omega.{arith}
-use borrow.Author.Tests.{lt-ltb, le-ltb, le-leb, lt-leb, ne_eqb, leb-true, leb-false}
+use borrow.Author.Tests.{lt-ltb, le-ltb, le-leb, lt-leb, leb-true, leb-false}
 use lib.Dec.{leb, ltb}
 use lib.ListN.{length, take, replicate, length-append}
 use lib.Seq.{take-append_seam}
@@ -22,7 +21,7 @@ use Rattle.cert.specs.Requests.{clause_tokens}
 use Rattle.cert.specs.State.{State, start, step_in, define, write, hold, requests, Head, stored_steps}
 use Rattle.cert.proofs.Apart.{sized_ok}
 use Rattle.cert.proofs.LeavesBelow.{one_twice}
-use Rattle.cert.proofs.Rules.{Ok}
+use Rattle.cert.proofs.Rules.{Ok, Below}
 use Rattle.cert.proofs.Serving.{serve_in}
 use Rattle.player.specs.Formed.{Sound}
 use Rattle.player.specs.Passes.{AllPassed, all_done, all_more, Passes}
@@ -32,7 +31,7 @@ use Rattle.player.specs.Verdict.{OffNode, offset_high, limit_high}
 use Rattle.player.specs.declared.Command.{Command}
 use Rattle.player.proofs.Counts.{all_keep}
 use Rattle.player.proofs.Questions.{answered_no, answered_yes, side_answer}
-use Rattle.player.proofs.Plays.{play_fits, play_full, plays_done, plays_accepted, plays_refused, outcome_number, start_empty}
+use Rattle.player.proofs.Plays.{side, ten, often, play_fits, play_full, plays_done, plays_accepted, plays_refused, outcome_number, start_empty}
 use Rattle.player.proofs.Scripts.{accepted_reads, passes_plays, passes_is}
 use Rattle.player.proofs.Sound.{sound_start, sound_act, request_fits, requests_asked}
 
@@ -255,12 +254,6 @@ module _ (bs : List ℕ) (capacity other : ℕ) (most : other ≤ most_bytes) (a
 
 -- ---- each theorem at numbers that meet its hypotheses
 
-side : ℕ → ℕ → ℕ → Side
-side n f k = record { node = n; offset = f; limit = k }
-
-ten : Head
-ten = record { variable = 10; step = 1 }
-
 -- four leaves; node 5 has three outputs
 three : List Node
 three = leaf 0 ∷ leaf 2 ∷ leaf 4 ∷ leaf 6 ∷ join (0 ∷ 2 ∷ []) 10 (side 0 0 0) (side 1 0 0) ∷ join (0 ∷ 2 ∷ 4 ∷ []) 12 (side 4 0 0) (side 2 0 0) ∷ []
@@ -278,58 +271,59 @@ unfolding three len node_at leaves
 met_within = value_within ten three 5 (omega arith) 3 3 (omega arith) (omega arith) (omega arith) (omega arith)
 
 free_three : (f k g j : ℕ) → Free three (side 5 f k) (side 3 g j)
-unfolding three share_leaf join_count side
+unfolding three share_leaf join_count
 free_three f k g j = record { left = omega arith; right = omega arith; apart = refl; few = omega arith }
 
 met_last : first_no (questions ten three (Command.Join (side 5 2 0) (side 3 0 0))) ≡ 0
-unfolding three len node_at leaves side
+unfolding three len node_at leaves
 met_last = offset_last ten three (side 5 2 0) (side 3 0 0) (free_three 2 0 0 0) refl refl refl (omega arith) refl
 
 met_length : first_no (questions ten three (Command.Join (side 5 3 0) (side 3 0 0))) ≡ 10
-unfolding three len node_at leaves side
+unfolding three len node_at leaves
 met_length = offset_length ten three (side 5 3 0) (side 3 0 0) (free_three 3 0 0 0) refl refl refl (omega arith) refl
 
 met_inside : first_no (questions ten three (Command.Join (side 5 1 2) (side 3 0 0))) ≡ 0
-unfolding three len node_at leaves side
+unfolding three len node_at leaves
 met_inside =
     sides_inside ten three (side 5 1 2) (side 3 0 0) (free_three 1 2 0 0)
     (record { below = omega arith; within = omega arith }) (plain_inside three (side 3 0 0) refl refl (omega arith))
 
 met_left : first_no (questions ten three (Command.Join (side 5 1 3) (side 3 0 0))) ≡ 10
-unfolding three len node_at leaves side
+unfolding three len node_at leaves
 met_left = left_outside ten three (side 5 1 3) (side 3 0 0) (free_three 1 3 0 0) (limit_high (omega arith))
 
 met_right : first_no (questions ten three (Command.Join (side 5 0 0) (side 3 0 2))) ≡ 10
-unfolding three len node_at leaves side
+unfolding three len node_at leaves
 met_right = right_outside ten three (side 5 0 0) (side 3 0 2) (free_three 0 0 0 2) (limit_high (omega arith))
 
 met_whole : first_no (questions ten three (Command.Join (side 5 0 3) (side 3 0 1))) ≡ 0
-unfolding three len node_at leaves side
+unfolding three len node_at leaves
 met_whole =
     sides_inside ten three (side 5 0 3) (side 3 0 1) (free_three 0 3 0 1) (record { below = omega arith; within = omega arith })
     (record { below = omega arith; within = omega arith })
 
--- two leaves and n joins of them, and a third leaf
-many : ℕ → List Node
-many n = leaf 0 ∷ leaf 2 ∷ leaf 4 ∷ replicate n (join (0 ∷ 2 ∷ []) 10 (side 0 0 0) (side 1 0 0))
+met_shared : first_no (questions ten three (Command.Join (side 5 2 1) (side 4 0 0))) ≡ 9
+unfolding three share_leaf
+met_shared = leaf_shared ten three (side 5 2 1) (side 4 0 0) (omega arith) (omega arith) refl
 
--- The 255th join, whose sides stand under others; the 256th, also with an offset past the length; then a leaf with a join over it, one node twice, two
--- joins of the same leaves, and a node that is not there.
-met_joins : map {B = ℕ} (λ (q : List Node × Command). first_no (questions ten q.0 q.1)) (
-    (many 254, Command.Join (side 0 0 0) (side 1 0 0))
-    ∷ (many 254, Command.Join (side 5 1 0) (side 2 0 0))
-    ∷ (many 255, Command.Join (side 0 0 0) (side 1 0 0))
-    ∷ (many 255, Command.Join (side 0 1 0) (side 1 0 0))
-    ∷ (many 255, Command.Join (side 0 0 0) (side 3 1 1))
-    ∷ (many 255, Command.Join (side 2 9 0) (side 2 0 0))
-    ∷ (many 3, Command.Join (side 3 0 1) (side 4 1 1))
-    ∷ (many 255, Command.Join (side 258 0 0) (side 258 0 0))
-    ∷ []) ≡ 0 ∷ 0 ∷ 15 ∷ 15 ∷ 9 ∷ 9 ∷ 9 ∷ 8 ∷ []
-unfolding questions many side ten first_no
-met_joins = refl
+one : List Node
+one = leaf 0 ∷ []
+
+one_ok : Ok one
+unfolding one Ok Below node_at
+one_ok zero h = tt
+one_ok (suc n) h = absurd (omega arith)
+
+met_one_node : first_no (questions ten one (Command.Join (side 0 0 0) (side 0 9 9))) ≡ 9
+unfolding one
+met_one_node = one_node ten one (side 0 0 0) (side 0 9 9) (omega arith) (omega arith) one_ok refl
+
+met_joins_full : first_no (questions ten (often 255) (Command.Join (side 0 0 0) (side 1 9 9))) ≡ 15
+unfolding often share_leaf join_count
+met_joins_full = joins_full ten (often 255) (side 0 0 0) (side 1 9 9) (omega arith) (omega arith) refl (omega arith)
 
 met_few : first_no (questions ten three (Command.Leaf 8)) ≡ 0
-unfolding three variable neg known leaf_count ten
+unfolding three variable neg known leaf_count
 met_few = leaves_few ten three 8 (omega arith) refl refl (omega arith)
 
 -- the leaves 0, 2, 4 and so on

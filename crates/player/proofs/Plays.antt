@@ -1,7 +1,7 @@
 -- What a play comes to, by cases: one command, a list of commands, a whole script; the log is as long as the capacity and has zeros from its length on.
 use mathlib.Core.Path.{◌≡◌, refl, sym, ◌∙◌, subst}
 use mathlib.Core.Bool.{Bool, true, false, ◌&&◌}
-use mathlib.Core.List.{List, [], ◌∷◌}
+use mathlib.Core.List.{List, [], ◌∷◌, map}
 use Prim.Native.Nat.{ℕ, zero, suc, ◌-◌, ◌≤◌, ◌<◌}
 use native.Mathlib.Decide.{dec_le}
 use native.Mathlib.Omega.{arith}
@@ -12,6 +12,8 @@ use lib.Seq.{drop-append_seam}
 use Rattle.sizes.specs.Sizes.{most_bytes}
 use Rattle.number.specs.Number.{number, read, Front, bad}
 use Rattle.record.specs.Record.{bytes}
+use Rattle.totdb.specs.Nodes.{Node, leaf, join}
+use Rattle.totdb.specs.declared.Side.{Side}
 use Rattle.cert.specs.State.{State, start, Head}
 use Rattle.player.specs.Passes.{Passed}
 use Rattle.player.specs.Player.{accepted, refused, first_no, questions, delete, act, fitted, play, Result, plays, outcome, ended, refused_at_head, head_fits, play_script, played, Padded}
@@ -26,8 +28,33 @@ two_bytes : let s = delete untouched in (fitted 2 s ≡ accepted s) × (fitted 1
 unfolding delete start fitted
 two_bytes = (refl, refl)
 
+abbrev pub side : ℕ → ℕ → ℕ → Side
+side n f k = record { node = n; offset = f; limit = k }
+
+abbrev pub ten : Head
+ten = record { variable = 10; step = 1 }
+
+-- Three leaves, and n joins of the first two.
+unfoldable pub often : ℕ → List Node
+often n = leaf 0 ∷ leaf 2 ∷ leaf 4 ∷ replicate n (join (0 ∷ 2 ∷ []) 10 (side 0 0 0) (side 1 0 0))
+
+-- Questions 9 and 15 at their edges: the 255th join, whose sides stand under others; the 256th, also with an offset past the length; then a leaf with a
+-- join over it, one node twice, two joins of the same leaves, and a node that is not there.
+met_asked : map {B = ℕ} (λ (q : List Node × Command). first_no (questions ten q.0 q.1)) (
+    (often 254, Command.Join (side 0 0 0) (side 1 0 0))
+    ∷ (often 254, Command.Join (side 5 1 0) (side 2 0 0))
+    ∷ (often 255, Command.Join (side 0 0 0) (side 1 0 0))
+    ∷ (often 255, Command.Join (side 0 1 0) (side 1 0 0))
+    ∷ (often 255, Command.Join (side 0 0 0) (side 3 1 1))
+    ∷ (often 255, Command.Join (side 2 9 0) (side 2 0 0))
+    ∷ (often 3, Command.Join (side 3 0 1) (side 4 1 1))
+    ∷ (often 255, Command.Join (side 258 0 0) (side 258 0 0))
+    ∷ []) ≡ 0 ∷ 0 ∷ 15 ∷ 15 ∷ 9 ∷ 9 ∷ 9 ∷ 8 ∷ []
+unfolding questions often first_no
+met_asked = refl
+
 module _ (h : Head) (capacity : ℕ) (c : Command) (s : State) where
-  -- One of questions 6 to 12.
+  -- One of questions 6 to 12, or 15.
   pub play_stops : (n : ℕ) → 0 < n → first_no (questions h s.nodes c) ≡ n → play h capacity c s ≡ refused n
   unfolding play
   play_stops zero p e = absurd (omega arith)

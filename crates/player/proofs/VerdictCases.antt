@@ -74,8 +74,12 @@ joined = leaves ++ (2 ∷ 0 ∷ 0 ∷ 0 ∷ 1 ∷ 0 ∷ 0 ∷ [])
 many : List ℕ
 many = (100 ∷ 1 ∷ flat_map (λ (i : ℕ). 1 ∷ (2 * i) ∷ []) (range 0 64)) ++ (1 ∷ 0x80 ∷ 1 ∷ [])
 
+-- two leaves, then their join 256 times
+often : List ℕ
+often = 3 ∷ 1 ∷ 1 ∷ 0 ∷ 1 ∷ 2 ∷ flat_map (λ (i : ℕ). 2 ∷ 0 ∷ 0 ∷ 0 ∷ 1 ∷ 0 ∷ 0 ∷ []) (range 0 256)
+
 unfoldable pub cases : List Case
-unfolding case leaves joined many
+unfolding case leaves joined many often
 cases =
     -- 1: a log too long
     case (3 ∷ 1 ∷ []) 65537 1 0
@@ -109,6 +113,8 @@ cases =
     ∷ case (joined ++ (2 ∷ 0 ∷ 0 ∷ 0 ∷ 3 ∷ 0 ∷ 1 ∷ [])) 0 9 5
     ∷ case (joined ++ (2 ∷ 3 ∷ 0 ∷ 1 ∷ 3 ∷ 1 ∷ 0 ∷ [])) 0 9 5
     ∷ case (joined ++ (2 ∷ 3 ∷ 1 ∷ 0 ∷ 2 ∷ 0 ∷ 0 ∷ 2 ∷ 4 ∷ 0 ∷ 1 ∷ 3 ∷ 0 ∷ 0 ∷ [])) 0 9 6
+    -- 15: a 256th join
+    ∷ case often 0 15 258
     -- 10: an offset, a limit past the rest, one past the length, of a leaf and of a join
     ∷ case (joined ++ (2 ∷ 3 ∷ 2 ∷ 0 ∷ 2 ∷ 0 ∷ 0 ∷ [])) 0 10 5
     ∷ case (joined ++ (2 ∷ 3 ∷ 1 ∷ 2 ∷ 2 ∷ 0 ∷ 0 ∷ [])) 0 10 5
@@ -129,7 +135,7 @@ cases =
     ∷ []
 
 pub all_met : Each cases
-unfolding cases case leaves joined many all_come
+unfolding cases case leaves joined many often all_come
 all_met = each cases refl
 
 -- A script that passes: leaves and a close.

@@ -1,5 +1,5 @@
 -- What every state of a script meets: literals are numbered, nodes are few, steps are counted, and what is held was asked rightly.
-use Rattle.std.specs.Prelude.{◌≡◌, true, false, ℕ, zero, suc, ◌+◌, ◌*◌, ◌≤◌, ◌<◌, length}
+use Rattle.std.specs.Prelude.{◌≡◌, true, ℕ, ◌+◌, ◌*◌, ◌≤◌, ◌<◌, length}
 use mathlib.Core.List.{List, Memᴰ}
 use Rattle.sizes.specs.Sizes.{most_leaves, most_joins, width}
 use Rattle.totdb.specs.Nodes.{Node, join, node_at, len, leaf_count, join_count}

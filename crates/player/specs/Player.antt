@@ -1,5 +1,5 @@
 -- The player: the questions in their order, one command at a time, and the answer.
-use Rattle.std.specs.Prelude.{None, ◌≡◌, Bool, true, false, ◌&&◌, ◌||◌, not as notb, List, [], ◌∷◌, ◌++◌, ℕ, zero, suc, ◌+◌, ◌-◌, ◌≤◌, leb, ltb, eqb, length, drop, replicate}
+use Rattle.std.specs.Prelude.{None, ◌≡◌, Bool, true, false, ◌&&◌, ◌||◌, not as notb, List, [], ◌∷◌, ◌++◌, ℕ, zero, suc, ◌+◌, ◌-◌, ◌≤◌, leb, ltb, length, drop, replicate}
 use Rattle.sizes.specs.Sizes.{most_bytes, most_head, most_leaves, most_joins}
 use Rattle.number.specs.Number.{read_refusal}
 use Rattle.pb.specs.Sum.{variable, neg}
