@@ -10,7 +10,7 @@ use lib.ListN.{length, get_or, take, length-append, get_or-append}
 use lib.Seq.{get_or-append_seam}
 use Rattle.totdb.specs.Nodes.{Node, leaf, join, node_at, leaf_count}
 use Rattle.totdb.specs.Below.{below_from, leaves_below, share_leaf}
-use Rattle.totdb.proofs.Meet.{meet_has, meet_none}
+use Rattle.totdb.proofs.Meet.{meet_has}
 use Rattle.totdb.specs.declared.Side.{Side}
 use Rattle.cert.specs.Sized.{Separate}
 use Rattle.cert.proofs.Rules.{Ok, Below}
@@ -176,26 +176,11 @@ module _ (t : List Node) (n m : ℕ) where
   pub share_no : share_leaf t n m ≡ false → Separate t n m
   share_no e x i j = true≢false (sym (share_has x i j) ∙ e)
 
-  pub separate_no : Separate t n m → share_leaf t n m ≡ false
-  unfolding share_leaf leaves_below
-  separate_no s = meet_none (leaves_below t n) (leaves_below t m) s
-
 module _ (t : List Node) (ok : Ok t) where
-  -- One node twice shares a leaf; so do a join and the node of each of its sides.
+  -- One node twice shares a leaf.
   pub one_twice : (n : ℕ) → n < length t → share_leaf t n n ≡ true
   one_twice n h = let s = some_below t ok n h in share_has t n n s.0 s.1 s.1
 
   pub separate_differ : (n m : ℕ) → n < length t → Separate t n m → n ≢ m
   separate_differ n m h s e =
       let x = some_below t ok n h in s x.0 x.1 (subst (λ (k : ℕ). Memᴰ x.0 (leaves_below t k)) e x.1)
-
-  module _ (n : ℕ) (ls : List ℕ) (o : ℕ) (l r : Side) (h : n < length t) (e : node_at t n ≡ join ls o l r) (a : l.node < n) (c : r.node < n) where
-    pub over_left : share_leaf t n l.node ≡ true
-    over_left =
-        let s = some_below t ok l.node (omega arith) in
-        share_has t n l.node s.0 (rw (below_join t n ls o l r h e a c) (Memᴰ.append_left (leaves_below t r.node) s.1)) s.1
-
-    pub over_right : share_leaf t n r.node ≡ true
-    over_right =
-        let s = some_below t ok r.node (omega arith) in
-        share_has t n r.node s.0 (rw (below_join t n ls o l r h e a c) (Memᴰ.append_right (leaves_below t l.node) s.1)) s.1

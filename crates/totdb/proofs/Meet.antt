@@ -39,10 +39,3 @@ module _ (xs ys : List ℕ) where
       let p = any_from (λ (x : ℕ). any (eqb x) ys) xs e in
       let q = any_from (eqb p.0) ys p.2 in
       (p.0, p.1, subst (λ (y : ℕ). Memᴰ y ys) (sym (eqb-true p.0 q.0 q.2)) q.1)
-
-  pub meet_none : ((x : ℕ) → Memᴰ x xs → Memᴰ x ys → ⊥) → meet xs ys ≡ false
-  meet_none apart = by (meet xs ys) refl
-    where
-      by : (b : Bool) → meet xs ys ≡ b → b ≡ false
-      by false e = refl
-      by true e = let p = meet_from e in absurd (apart p.0 p.1 p.2)
