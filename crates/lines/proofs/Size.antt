@@ -4,20 +4,20 @@ use mathlib.Core.List.{List, [], ◌∷◌, flat_map}
 use Prim.Native.Nat.{ℕ, zero, suc, ◌+◌, ◌*◌, ◌^◌, ◌≤◌, ◌<◌}
 use native.Mathlib.Omega.{arith}
 use lib.ListN.{length, length-append}
-use Rattle.sizes.specs.Sizes.{most_bytes, most_leaves}
+use Rattle.sizes.specs.Sizes.{most_bytes, most_nodes}
 use Rattle.number.specs.Number.{encode}
 use Rattle.number.proofs.Laws.{encode_some, encode_length}
 use Rattle.memo.proofs.Lists.{length_perm, flat_map_append, flat_map_perm}
 use Rattle.record.specs.Record.{Record, sum, derivation, clause, deletion, numbers, bytes, clauses}
 use Rattle.record.proofs.Bytes.{two_bytes}
-use Rattle.player.specs.Formed.{Treed}
+use Rattle.player.specs.Formed.{Limits}
 use Rattle.player.specs.Player.{Outcome, outcome, played}
 use Rattle.player.proofs.Counts.{all_keep}
 use Rattle.player.proofs.Endings.{ending}
+use Rattle.player.proofs.Limits.{limits_start, limits_act, few_nodes_lem}
 use Rattle.player.proofs.Plays.{outcome_number, outcome_place}
 use Rattle.player.proofs.Scripts.{accepted_reads, passes_is}
 use Rattle.player.proofs.Sound.{sound_start}
-use Rattle.player.proofs.Tree.{treed_start, treed_act, few_nodes_lem}
 use Rattle.text.specs.Text.{decimal, spaced}
 use Rattle.text.proofs.Laws.{decimal_length}
 use Rattle.listing.specs.Line.{line}
@@ -86,18 +86,18 @@ refusal_length n c h k = simp length-append (omega (arith, decimal_length n 10 (
 
 -- ---- low numbers
 
-nodes_most : (bs : List ℕ) (capacity : ℕ) → (played bs capacity).number ≡ 0 → (played bs capacity).nodes ≤ 2 * most_leaves
+nodes_most : (bs : List ℕ) (capacity : ℕ) → (played bs capacity).number ≡ 0 → (played bs capacity).nodes ≤ most_nodes
 unfolding outcome
 nodes_most bs capacity e =
     let a = accepted_reads bs capacity e in
     let h = a.0 in
-    rw (passes_is a.2) (few_nodes_lem (all_keep (Treed h) (treed_act h) a.2.all (sound_start h) (treed_start h)))
+    rw (passes_is a.2) (few_nodes_lem (all_keep (Limits h) (limits_act h) a.2.all (sound_start h) (limits_start h)))
 
 refusal_low : (bs : List ℕ) (capacity n : ℕ) → (played bs capacity).number ≡ suc n
-    → ((played bs capacity).number ≤ 14) × ((played bs capacity).place ≤ most_bytes + 1)
+    → ((played bs capacity).number ≤ 15) × ((played bs capacity).place ≤ most_bytes + 1)
 refusal_low bs capacity n e =
     let k = ending bs capacity in
-    let low : k.number ≤ 14 = k.number_low in
+    let low : k.number ≤ 15 = k.number_low in
     let number : (played bs capacity).number ≡ k.number = ap (λ (o : Outcome). o.number) k.is ∙ outcome_number capacity k.number k.place k.state in
     let place : (played bs capacity).place ≡ k.place = ap (λ (o : Outcome). o.place) k.is ∙ outcome_place capacity k.number k.place k.state in
     (omega arith, omega (arith, k.place_low))

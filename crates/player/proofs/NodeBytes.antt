@@ -8,7 +8,7 @@ use lib.ListN.{length}
 use Rattle.sizes.specs.Sizes.{leaf_bytes, join_bytes}
 use Rattle.number.specs.Number.{groups, Front, number, bad, read}
 use Rattle.number.proofs.Laws.{read_in-rest}
-use Rattle.totdb.specs.Nodes.{Node, leaf, joined, known, leaf_count}
+use Rattle.totdb.specs.Nodes.{Node, leaf, joined, known, leaf_count, join_count}
 use Rattle.totdb.proofs.Leaves.{leaf_count-leaf, leaf_count-join}
 use Rattle.cert.specs.State.{State, Head, start, serve, requests}
 use Rattle.cert.proofs.Apart.{sized_ok}
@@ -17,6 +17,7 @@ use Rattle.player.specs.Formed.{Sound}
 use Rattle.player.specs.Player.{first_no, questions, act, make, delete, play, accepted}
 use Rattle.player.specs.Script.{Next, command, refuse, get, arguments, read_command, command_numbers}
 use Rattle.player.specs.declared.Command.{Command}
+use Rattle.player.proofs.Limits.{join_count-leaf, join_count-join}
 use Rattle.player.proofs.Plays.{play_passed}
 use Rattle.player.proofs.Sound.{serve_nodes, requests_asked, request_fits}
 
@@ -62,18 +63,16 @@ command_takes closed (b ∷ bs) c rest e = takes_code closed (b ∷ bs) c rest e
 -- ---- the nodes
 
 -- The nodes t are made within n bytes.
-pub record Took (n : ℕ) (t : List Node) : Type 0 where
-  pub joins : ℕ
-  pub counted : length t ≡ leaf_count t + joins
-  pub within : leaf_bytes * leaf_count t + join_bytes * joins ≤ n
+abbrev pub Took : ℕ → List Node → Type 0
+Took n t = leaf_bytes * leaf_count t + join_bytes * join_count t ≤ n
 
 pub took_start : (h : Head) (n : ℕ) → Took n (start h).nodes
-unfolding start leaf_count
-took_start h n = record { joins = 0; counted = refl; within = omega arith }
+unfolding start leaf_count join_count
+took_start h n = omega arith
 
 module _ (h : Head) (s : State) (sound : Sound h s) (n m : ℕ) (t : Took n s.nodes) where
   same : n ≤ m → (v : State) → v.nodes ≡ s.nodes → Took m v.nodes
-  same later v e = rw e (record { joins = t.joins; counted = t.counted; within = omega (arith, t.within) })
+  same later v e = rw e (omega (arith, t))
 
   acts : (k : Command) → n + length (command_numbers k) ≤ m → first_no (questions h s.nodes k) ≡ 0 → Took m (act k s).nodes
   unfolding act command_numbers
@@ -81,20 +80,12 @@ module _ (h : Head) (s : State) (sound : Sound h s) (n m : ℕ) (t : Took n s.no
     where
       by : (b : Bool) → known s.nodes l ≡ b → Took m (elim b as (λ _. State) [ true ↦ s | false ↦ make (leaf l) 0 s ]).nodes
       by true e = same (omega arith) s refl
-      by false e = unfold make in record {
-        joins = t.joins;
-        counted = omega (arith, t.counted, length_snoc s.nodes (leaf l), leaf_count-leaf s.nodes l);
-        within = omega (arith, t.within, leaf_count-leaf s.nodes l);
-      }
+      by false e = unfold make in omega (arith, t, leaf_count-leaf s.nodes l, join_count-leaf s.nodes l)
   acts (Command.Join l r) later asked =
       let x : Node = joined s.nodes s.next_variable l r in
-      let e : leaf_count (s.nodes ++ (joined s.nodes s.next_variable l r ∷ [])) ≡ leaf_count s.nodes =
-      unfold joined in leaf_count-join s.nodes _ s.next_variable _ _ in
-      unfold make in record {
-        joins = t.joins + 1;
-        counted = omega (arith, t.counted, length_snoc s.nodes x, e);
-        within = omega (arith, t.within, e);
-      }
+      let leaves : leaf_count (s.nodes ++ (x ∷ [])) ≡ leaf_count s.nodes = unfold joined in leaf_count-join s.nodes _ s.next_variable _ _ in
+      let joins : join_count (s.nodes ++ (x ∷ [])) ≡ join_count s.nodes + 1 = unfold joined in join_count-join s.nodes _ s.next_variable _ _ in
+      unfold make in omega (arith, t)
   acts (Command.Request p v d) later asked =
       let ns = s.nodes in
       same (omega arith) (serve ns (requests p v d) s)

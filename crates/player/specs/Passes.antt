@@ -7,7 +7,7 @@ use Rattle.player.specs.Player.{first_no, questions, act, head_fits}
 use Rattle.player.specs.Script.{Commands, script, read_script}
 use Rattle.player.specs.declared.Command.{Command}
 
--- A command passes questions 6 to 12 in a state, and 14 in the state after it.
+-- A command passes questions 6 to 12 and 15 in a state, and 14 in the state after it.
 pub record Passed (h : Head) (capacity : ℕ) (c : Command) (s u : State) : Type 0 where
   pub asked : first_no (questions h s.nodes c) ≡ 0
   pub after : act c s ≡ u

@@ -6,8 +6,9 @@ use Prim.Native.Nat.{ℕ, zero, suc, ◌+◌, ◌-◌, ◌≤◌, ◌<◌}
 use native.Mathlib.Omega.{arith}
 use Rattle.std.specs.Prelude.{Some, None, Result, Ok, Err}
 use lib.ListN.{length, drop}
-use Rattle.totdb.specs.Nodes.{leaf_count}
+use Rattle.totdb.specs.Nodes.{leaf_count, join_count}
 use Rattle.cert.specs.State.{State, Head, start}
+use Rattle.cert.proofs.Few.{nodes_are}
 use Rattle.define.specs.Represents.{memory}
 use Rattle.player.specs.Places.{next_at}
 use Rattle.player.specs.Player.{plays, outcome, Outcome}
@@ -15,9 +16,9 @@ use Rattle.player.specs.Refusals.{number_of, number_or_none}
 use Rattle.player.specs.Script.{Commands, closes, read_commands, stop, before}
 use Rattle.player.specs.declared.Command.{Command}
 use Rattle.player.specs.declared.Refusal.{Refusal}
+use Rattle.player.proofs.Limits.{few_nodes_lem}
 use Rattle.player.proofs.NodeBytes.{Took, took_on}
 use Rattle.player.proofs.Plays.{plays_done, plays_ended, plays_accepted, plays_refused}
-use Rattle.player.proofs.Tree.{few_nodes_lem}
 use Rattle.commands.specs.Standing.{Standing, Room, Reported, Played, went, stopped}
 use Rattle.commands.specs.declared.Totals.{Totals}
 use Rattle.commands.proofs.CommandEnds.{fits, reported}
@@ -50,7 +51,7 @@ module _ {h : Head} {c : ℕ} {script : List ℕ} {cs : Commands} {ns store log 
     reported = rw d rep;
     fits = fits g.standing;
     counted = g.standing.formed.counted.next;
-    few = few_nodes_lem g.standing.formed.treed;
+    few = few_nodes_lem g.standing.formed.limits;
   }
 
   now_reported : Reported c log z g.state
@@ -96,13 +97,13 @@ module _ {h : Head} {c : ℕ} {script : List ℕ} {cs : Commands} {ns store log 
         → Room ns store z.nodes
     room_left rows a b =
         let st = g.standing in
-        let t = g.took in
-        let r = rows.room (leaf_count g.state.nodes) t.joins (record {
+        let made = nodes_are g.state.nodes in
+        let r = rows.room (leaf_count g.state.nodes) (join_count g.state.nodes) (record {
           few_leaves = st.table.bounded.few_leaves;
-          few = omega (arith, t.counted, few_nodes_lem st.formed.treed);
-          took = omega (arith, t.within, after.later, after.within);
+          few = omega (arith, made, few_nodes_lem st.formed.limits);
+          took = omega (arith, g.took, after.later, after.within);
         }) in
-        record { row = omega (arith, r.row, a, st.nodes, t.counted); store_row = omega (arith, r.store_row, b, st.nodes, t.counted) }
+        record { row = omega (arith, r.row, a, st.nodes, made); store_row = omega (arith, r.store_row, b, st.nodes, made) }
 
     module _ {ns' store' log' : List ℕ} {x : Result Totals Refusal} (p : Played h c k g.state z ns' store' log' x) where
       pub goes_on : {y : Totals} → x ≡ Ok y → (place' : ℕ) → place' ≡ place + 1 → (closed' : Bool) → closed' ≡ closes k
