@@ -30,7 +30,7 @@ pub desk_card : DeskCard
 desk_card = record {
   needed = λ bs capacity c s a.
       let g = reached_formed a.reached in
-      let asked = none_asked a.head capacity s (reached_ok a.reached) c (λ n l p. l (a.asked n p)) in
+      let asked = none_asked a.head capacity s (reached_ok a.reached) c (λ n l p. l (omega (arith, a.asked n p))) in
       let f = formed_act a.head c s asked g in
       let t = (act c s).nodes in
       record {
@@ -40,7 +40,7 @@ desk_card = record {
             clause_available t x k.0 (f.held x i) k.1 l (subst (Memᴰ l) (sym k.2) j);
         windows = λ x c k n v d i m g p. pulled_available t f.sound.sized x c k n v d (f.held x i) m g p;
       };
-  unused = λ bs capacity w. (verdict_used (verdict_of bs capacity w).1).1;
+  unused = λ bs capacity w e. (verdict_used (verdict_of bs capacity w).1).1 (omega (arith, e));
 }
 
 -- ---- which commands act

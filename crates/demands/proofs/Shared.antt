@@ -151,14 +151,14 @@ module _ {bs : List ℕ} {capacity : ℕ} {h : Head} {cs : List Command} {s : St
 
   shared_in : SharedIn h capacity s s.nodes
   shared_in = record {
-    joins_pass = joins_pass;
+    joins_pass = λ l r i j none few. joins_pass l r i j none (omega (arith, few));
     own = own_window formed;
     one = λ a b w v e i d.
         let q = same_outputs formed a b w v e in
         same_window s.nodes a b (not_plain a.offset a.limit w.hides) (not_plain b.offset b.limit v.hides) q.0 q.1 q.2 i d;
     few_joins = omega (arith, joins_counted s.nodes, formed.limits.few_joins);
     few_nodes = omega (arith, few_nodes_lem formed.limits);
-    no_longer = no_longer formed;
+    no_longer = λ n xs l all. omega (arith, no_longer formed n xs l all);
     short = λ n i. omega (arith, formed.limits.short n i);
     within = λ n i. different_once (leaves (node_at s.nodes n)) (told.within n i);
     apart = λ n m i j none. leaves_apart s.nodes formed.sound.sized told.outputs n m i j (separate formed n m none);
