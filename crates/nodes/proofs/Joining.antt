@@ -5,9 +5,9 @@ use Prim.Native.Nat.{ℕ, zero, suc, ◌+◌, ◌-◌, ◌*◌}
 use native.Mathlib.Omega.{arith}
 use lib.ListN.{length, set, drop, replicate, length-append}
 use lib.Seq.{paste, sets, take_at, take_all, drop-append-add}
-use Rattle.sizes.specs.Sizes.{width, row, length_column, first_column, kind_column, left_column, right_column, list_column}
+use Rattle.sizes.specs.Sizes.{width, row, length_column, first_column, kind_column, below_column, left_column, right_column, list_column}
 use Rattle.rows.specs.declared.Shown.{Shown}
-use Rattle.nodes.specs.Added.{side_numbers, join_numbers}
+use Rattle.nodes.specs.Added.{mask_numbers, side_numbers, join_numbers}
 
 -- ---- a list put where zeros are
 
@@ -24,7 +24,7 @@ put_list p a q n k e f =
 
 -- ---- the row
 
-module _ (v : ℕ) (l r : Shown) (a b : List ℕ) (e : l.len ≡ length a) (f : r.len ≡ length b) where
+module _ (v m : ℕ) (l r : Shown) (a b : List ℕ) (e : l.len ≡ length a) (f : r.len ≡ length b) where
   both_lists : {x y : List ℕ} → x ≡ paste (replicate row 0) list_column a l.len → y ≡ paste x (list_column + l.len) b r.len
       → y ≡ replicate list_column 0 ++ (a ++ (b ++ replicate (width - l.len - r.len) 0))
   both_lists {x = x} {y = y} g h =
@@ -34,7 +34,7 @@ module _ (v : ℕ) (l r : Shown) (a b : List ℕ) (e : l.len ≡ length a) (f : 
       h ∙ rw first (put_list (head ++ a) b (list_column + l.len) r.len (width - l.len) (omega (arith, length-append head a)) (sym f)
       ∙ append_assoc head a (b ++ replicate (width - l.len - r.len) 0))
 
-  pub row_made : {x y z w : List ℕ} → x ≡ paste (replicate row 0) list_column a l.len → y ≡ paste x (list_column + l.len) b r.len
-      → z ≡ sets (set (set (set y length_column (l.len + r.len)) first_column (2 * v)) kind_column 1) left_column (side_numbers l) → w ≡ sets z right_column (side_numbers r)
-      → w ≡ join_numbers v l a r b
-  row_made g h i k = k ∙ rw (i, both_lists g h, e, f)
+  pub row_made : {x y u z w : List ℕ} → x ≡ paste (replicate row 0) list_column a l.len → y ≡ paste x (list_column + l.len) b r.len
+      → u ≡ sets (set (set (set y length_column (l.len + r.len)) first_column (2 * v)) kind_column 1) below_column (mask_numbers m)
+      → z ≡ sets u left_column (side_numbers l) → w ≡ sets z right_column (side_numbers r) → w ≡ join_numbers v m l a r b
+  row_made g h j i k = k ∙ rw (i, j, both_lists g h, e, f)

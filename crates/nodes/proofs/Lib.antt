@@ -4,3 +4,4 @@ pub mod Leaves
 pub mod Literals
 pub mod Adding
 pub mod Joining
+pub mod Windows

@@ -1,9 +1,11 @@
 -- What a node is added to, and the row of a new node.
-use Rattle.std.specs.Prelude.{◌≡◌, false, ◌≢◌, List, [], ◌∷◌, ◌++◌, ℕ, ◌+◌, ◌-◌, ◌*◌, ◌^◌, ◌≤◌, ◌<◌, length, replicate}
+use Rattle.std.specs.Prelude.{◌≡◌, true, false, cond, ◌||◌, List, [], ◌∷◌, ◌++◌, ℕ, ◌+◌, ◌-◌, ◌*◌, ◌/◌, ◌%◌, ◌^◌, ◌≤◌, ◌<◌, eqb, length, replicate}
 use Rattle.sizes.specs.Sizes.{most_leaves, most_nodes, most_variable, width, left_column, list_column}
-use Rattle.totdb.specs.Nodes.{Node, node_at, len, output, side_len, leaf_count, taken}
+use Rattle.totdb.specs.Nodes.{Node, node_at, len, output, plain_or, side_len, leaf_count}
 use Rattle.totdb.specs.declared.Side.{Side}
+use Rattle.cert.specs.Sized.{Separate}
 use Rattle.rows.specs.Rows.{Table}
+use Rattle.rows.specs.Windows.{window_at}
 use Rattle.rows.specs.declared.Shown.{Shown}
 
 -- Room for a leaf as node n and as leaf k.
@@ -22,9 +24,7 @@ pub record Joinable (ns : List ℕ) (t : List Node) (n variable : ℕ) (l r : Si
   pub room : n < most_nodes
   pub left : l.node < length t
   pub right : r.node < length t
-  pub apart : l.node ≢ r.node
-  pub left_free : taken t l.node ≡ false
-  pub right_free : taken t r.node ≡ false
+  pub apart : Separate t l.node r.node
   pub left_some : l.offset < len (node_at t l.node)
   pub right_some : r.offset < len (node_at t r.node)
   pub left_in : l.offset + side_len t l ≤ len (node_at t l.node)
@@ -51,8 +51,20 @@ pub record Small (s : Shown) : Type 0 where
 
 -- ---- rows
 
-abbrev pub leaf_numbers : ℕ → List ℕ
-leaf_numbers l = 1 ∷ l ∷ 0 ∷ 0 ∷ (replicate (list_column - left_column) 0 ++ (l ∷ replicate (width - 1) 0))
+-- The leaves below, a bit for each, in two numbers.
+abbrev pub mask_numbers : ℕ → List ℕ
+mask_numbers m = (m % 2 ^ 32) ∷ (m / 2 ^ 32) ∷ []
+
+-- The row of a leaf that was made after k others.
+abbrev pub leaf_numbers : ℕ → ℕ → List ℕ
+leaf_numbers l k = 1 ∷ l ∷ 0 ∷ (mask_numbers (2 ^ k) ++ (replicate (list_column - left_column) 0 ++ (l ∷ replicate (width - 1) 0)))
+
+-- Where the first steps of the window of a new side with m outputs stand: with the first side of the table that shows the same, else at its own place w.
+-- A plain side has no window.
+unfoldable pub window_place : List Node → Side → ℕ → ℕ → ℕ
+unfolding plain_or window_at
+window_place t s m w =
+    cond (plain_or s.offset s.limit true false || eqb (window_at t s.node s.offset m) 0) w (window_at t s.node s.offset m)
 
 -- A side of a table whose window's first steps stand at w.
 abbrev pub shown_of : List Node → Side → ℕ → Shown
@@ -62,7 +74,8 @@ shown_of t s w = record { side = s; len = side_len t s; first = output (node_at 
 abbrev pub side_numbers : Shown → List ℕ
 side_numbers s = s.side.node ∷ s.side.offset ∷ s.side.limit ∷ s.len ∷ s.window ∷ []
 
--- The row of a join of two sides with literals a and b, and outputs from the variable v up.
-abbrev pub join_numbers : ℕ → Shown → List ℕ → Shown → List ℕ → List ℕ
-join_numbers v l a r b =
-    (length a + length b) ∷ (2 * v) ∷ 1 ∷ 0 ∷ (side_numbers l ++ (side_numbers r ++ (a ++ (b ++ replicate (width - length a - length b) 0))))
+-- The row of a join of two sides with literals a and b, the leaves of the mask m below it, and outputs from the variable v up.
+abbrev pub join_numbers : ℕ → ℕ → Shown → List ℕ → Shown → List ℕ → List ℕ
+join_numbers v m l a r b =
+    (length a + length b) ∷ (2 * v) ∷ 1
+    ∷ (mask_numbers m ++ (side_numbers l ++ (side_numbers r ++ (a ++ (b ++ replicate (width - length a - length b) 0)))))

@@ -2,14 +2,17 @@
 // is lent in turn to be read and to be written.
 #![tactic(auto)]
 
-ghost use Rattle.std.specs.Prelude.{◌≡◌, List, [], ◌∷◌, ◌++◌, ◌+◌, ◌≤◌, ◌<◌, length, set};
+ghost use Rattle.std.specs.Prelude.{◌≡◌, List, [], ◌∷◌, ◌++◌, ℕ, ◌+◌, ◌≤◌, ◌<◌, length};
 ghost use Rattle.std.proofs.Math.Seq.{paste};
 ghost use Rattle.std.proofs.lemmas.List.Edits.{sets};
-ghost use Rattle.sizes.specs.Sizes.{row, row_at, taken_at, width, most_nodes, most_variable};
+ghost use Rattle.sizes.specs.Sizes.{row, row_at, below_column, list_column, width, most_leaves, most_nodes, most_variable};
+ghost use Rattle.totdb.specs.Below.{leaves_below, share_leaf, mask};
 ghost use Rattle.totdb.specs.Nodes.{Node, leaf, node_at, len, join_of, joined, part, plain_or, plain_form, side_len, side_leaves, leaf_count};
 ghost use Rattle.totdb.specs.Leaves.{lookup_leaf};
+ghost use Rattle.totdb.specs.declared.Side.{Side};
 ghost use Rattle.rows.specs.Rows.{Table};
-ghost use Rattle.nodes.specs.Added.{Leafable, Joinable, Sided, Small, shown_of, leaf_numbers, side_numbers, join_numbers};
+ghost use Rattle.rows.specs.Windows.{SideAt, shows, window_from, window_at};
+ghost use Rattle.nodes.specs.Added.{Leafable, Joinable, Sided, Small, window_place, shown_of, mask_numbers, leaf_numbers, side_numbers, join_numbers};
 
 use rows::Shown;
 use totdb::{LeafLookup, Side};
@@ -44,13 +47,12 @@ pub fn known(nodes: &[u32], count: usize, literal: u32) -> bool
     lookup_leaf(nodes, count, literal).is_found()
 }
 
-// A node stands under a join.
-pub fn taken(nodes: &[u32], node: usize) -> bool
-    requires { (t : List Node) × Table nodes.now t × (node < length t) }
-    ensures { (t : List Node) → Table nodes.now t → node < length t → result ≡ Rattle.totdb.specs.Nodes.taken t node }
+// A leaf lies below both nodes.
+pub fn share_leaf(nodes: &[u32], l: usize, r: usize) -> bool
+    requires { (t : List Node) × Table nodes.now t × (l < length t) × (r < length t) }
+    ensures { (t : List Node) → Table nodes.now t → l < length t → r < length t → result ≡ share_leaf t l r }
 {
-    let row = rows::row_at(node);
-    nodes[row + sizes::TAKEN] != 0
+    rows::below_at(nodes, l) & rows::below_at(nodes, r) != 0
 }
 
 // The length of a node.
@@ -70,13 +72,24 @@ fn put_row(nodes: &mut [u32], node: usize, r: &[u32; sizes::ROW])
     nodes[at..at + sizes::ROW].copy_from_slice(r);
 }
 
-// The row of a leaf.
-fn leaf_row(literal: u32) -> [u32; sizes::ROW]
-    ensures { result ≡ leaf_numbers literal }
+// The leaves below a node, a bit for each.
+fn put_below(r: &mut [u32], below: u64)
+    requires { list_column ≤ length r.old }
+    ensures { r.new ≡ sets r.old below_column (mask_numbers below) }
+{
+    r[sizes::BELOW] = (below % 4294967296) as u32;
+    r[sizes::BELOW + 1] = (below / 4294967296) as u32;
+}
+
+// The row of a leaf, which was made after k others.
+fn leaf_row(literal: u32, k: usize) -> [u32; sizes::ROW]
+    requires { k < most_leaves }
+    ensures { result ≡ leaf_numbers literal k }
 {
     let mut r = [0u32; sizes::ROW];
     r[sizes::LEN] = 1;
     r[sizes::FIRST] = literal;
+    put_below(&mut r, 1 << k);
     r[sizes::LIST] = literal;
     r
 }
@@ -87,24 +100,81 @@ pub fn add_leaf(nodes: &mut [u32], n: usize, k: usize, literal: u32)
     requires leafable { (t : List Node) × Leafable nodes.old t n k literal }
     ensures { (t : List Node) → Leafable nodes.old t n k literal → Table nodes.new (t ++ (leaf literal ∷ [])) }
 {
-    let r = leaf_row(literal);
+    let r = leaf_row(literal, k);
     put_row(nodes, n, &r);
     nodes[k] = literal;
     nodes[sizes::LEAF_NODES + k] = n as u32;
 }
 
-// A side, as a row has it whose window's first steps stand at `window`.
+// The side whose numbers stand at `at` shows so many outputs of s.node above s.offset.
+fn shows(nodes: &[u32], at: usize, s: Side, len: usize) -> bool
+    requires { (t : List Node) × Table nodes.now t × (w : ℕ) × (u : Side) × SideAt t at w u }
+    ensures { (t : List Node) → Table nodes.now t → (w : ℕ) (u : Side) → SideAt t at w u → result ≡ shows t s.node s.offset len u }
+{
+    rows::number_at(nodes, at) == s.node
+        && rows::number_at(nodes, at + 1) == s.offset
+        && rows::number_at(nodes, at + sizes::SIDE_LEN) == len
+}
+
+// The place in the store of the first steps of a window that a side of node i shows: 0 where none does.
+fn window_of(nodes: &[u32], i: usize, s: Side, len: usize) -> usize
+    requires { (t : List Node) × Table nodes.now t × (i < length t) }
+    ensures { (t : List Node) → Table nodes.now t → i < length t
+        → result ≡ window_from t s.node s.offset len (node_at t i ∷ []) i }
+{
+    let row = rows::row_at(i);
+    let base = sizes::STORE_START + sizes::STORE_ROW * i;
+    if nodes[row + sizes::KIND] == 0 {
+        return 0;
+    }
+    if shows(nodes, row + sizes::LEFT, s, len) {
+        return base + sizes::LEFT_WINDOW;
+    }
+    if shows(nodes, row + sizes::RIGHT, s, len) {
+        return base + sizes::RIGHT_WINDOW;
+    }
+    0
+}
+
+// The same, of the first side that shows it among the n nodes. Only joins after the node itself have it under a side.
+fn find_window(nodes: &[u32], n: usize, s: Side, len: usize) -> usize
+    requires { (t : List Node) × Table nodes.now t × (length t ≡ n) × (s.node < n) }
+    ensures { (t : List Node) → Table nodes.now t → length t ≡ n → result ≡ window_at t s.node s.offset len }
+{
+    for i in s.node + 1..n {
+        let at = window_of(nodes, i, s, len);
+        if at != 0 {
+            return at;
+        }
+    }
+    0
+}
+
+// Where the first steps of a side's window stand: at `own`, unless a side of the n nodes shows the same.
+fn window_place(nodes: &[u32], n: usize, s: Side, len: usize, own: usize) -> usize
+    requires { (t : List Node) × Table nodes.now t × (length t ≡ n) × (s.node < n) }
+    ensures { (t : List Node) → Table nodes.now t → length t ≡ n → result ≡ window_place t s len own }
+{
+    if s.is_plain() {
+        return own;
+    }
+    let at = find_window(nodes, n, s, len);
+    if at == 0 { own } else { at }
+}
+
+// A side of node n, as its row has it, with `own` as its own place for the first steps of its window.
 #[tactic(auto, using(rows::proofs::Reading::len_is, rows::proofs::Reading::first_is), unfolding(totdb::specs::Nodes::side_len))]
-fn shown(nodes: &[u32], s: Side, window: usize) -> Shown
-    requires { (t : List Node) × Table nodes.now t × (s.node < length t) }
-    ensures { (t : List Node) → Table nodes.now t → s.node < length t → result ≡ shown_of t s window }
+fn shown(nodes: &[u32], n: usize, s: Side, own: usize) -> Shown
+    requires { (t : List Node) × Table nodes.now t × (length t ≡ n) × (s.node < n) }
+    ensures { (t : List Node) → Table nodes.now t → length t ≡ n → s.node < n → result ≡ shown_of t s (window_place t s (side_len t s) own) }
 {
     let row = rows::row_at(s.node);
+    let len = s.len(rows::number_at(nodes, row));
     Shown {
         side: s,
-        len: s.len(rows::number_at(nodes, row)),
+        len,
         first: nodes[row + sizes::FIRST],
-        window,
+        window: window_place(nodes, n, s, len, own),
     }
 }
 
@@ -140,7 +210,8 @@ fn join_row(nodes: &[u32], variable: u32, l: Shown, r: Shown) -> [u32; sizes::RO
     requires limits { (variable ≤ most_variable) × (l.len + r.len ≤ width) × (l.window < 4294967296) × (r.window < 4294967296) }
     requires sided { (t : List Node) × Sided nodes.now t l × Sided nodes.now t r }
     ensures { (t : List Node) → Sided nodes.now t l → Sided nodes.now t r
-        → result ≡ join_numbers variable l (side_leaves t l.side) r (side_leaves t r.side) }
+        → result ≡ join_numbers variable (mask (leaves_below t l.side.node ++ leaves_below t r.side.node))
+        l (side_leaves t l.side) r (side_leaves t r.side) }
 {
     let mut row = [0u32; sizes::ROW];
     append_side(nodes, &mut row, sizes::LIST, l);
@@ -148,18 +219,12 @@ fn join_row(nodes: &[u32], variable: u32, l: Shown, r: Shown) -> [u32; sizes::RO
     row[sizes::LEN] = (l.len + r.len) as u32;
     row[sizes::FIRST] = 2 * variable;
     row[sizes::KIND] = 1;
+    let left = rows::below_at(nodes, l.side.node);
+    let right = rows::below_at(nodes, r.side.node);
+    put_below(&mut row, left | right);
     put_side(&mut row, sizes::LEFT, l);
     put_side(&mut row, sizes::RIGHT, r);
     row
-}
-
-// A node stands under a join from now on.
-fn mark(nodes: &mut [u32], node: usize)
-    requires { (node < 4294967296) × (row_at node + row ≤ length nodes.old) }
-    ensures { nodes.new ≡ set nodes.old (taken_at node) 1 }
-{
-    let row = rows::row_at(node);
-    nodes[row + sizes::TAKEN] = 1;
 }
 
 // A join of two sides as they are, as node n, its outputs on the variables from `variable` up. Its
@@ -171,12 +236,10 @@ fn put_join(nodes: &mut [u32], n: usize, variable: u32, l: Side, r: Side) -> usi
         → (result ≡ len (join_of t variable l r)) × Table nodes.new (t ++ (join_of t variable l r ∷ [])) }
 {
     let base = sizes::STORE_START + sizes::STORE_ROW * n;
-    let left = shown(nodes, l, base + sizes::LEFT_WINDOW);
-    let right = shown(nodes, r, base + sizes::RIGHT_WINDOW);
+    let left = shown(nodes, n, l, base + sizes::LEFT_WINDOW);
+    let right = shown(nodes, n, r, base + sizes::RIGHT_WINDOW);
     let row = join_row(nodes, variable, left, right);
     put_row(nodes, n, &row);
-    mark(nodes, l.node);
-    mark(nodes, r.node);
     left.len + right.len
 }
 

@@ -46,7 +46,7 @@ shows_parts t n f m s e =
     let y = and_true (eqb s.node n) (eqb s.offset f) x.0 in
     (eqb-true s.node n y.0, eqb-true s.offset f y.1, eqb-true (side_len t s) m x.1)
 
-shows_not : (t : List Node) (n f m : ℕ) (s : Side) → s.node ≢ n → shows t n f m s ≡ false
+pub shows_not : (t : List Node) (n f m : ℕ) (s : Side) → s.node ≢ n → shows t n f m s ≡ false
 unfolding shows
 shows_not t n f m s h = rw (ne_eqb s.node n h)
 
@@ -135,7 +135,7 @@ if_zero : (w a : ℕ) → w ≢ 0 → cond (eqb w 0) a w ≡ w
 if_zero w a h = rw (ne_eqb w 0 h)
 
 module _ (t : List Node) (n f m : ℕ) where
-  from_append : (u v : List Node) (i : ℕ)
+  pub from_append : (u v : List Node) (i : ℕ)
       → window_from t n f m (u ++ v) i ≡ cond (eqb (window_from t n f m u i) 0) (window_from t n f m v (i + length u)) (window_from t n f m u i)
   unfolding window_from
   from_append [] v i = let z : i + 0 ≡ i = omega arith in rw z

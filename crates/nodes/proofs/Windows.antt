@@ -1,0 +1,133 @@
+-- Where a window's first steps stand: the first side that shows the same is looked for.
+use Rattle.std.proofs.lemmas.List.{drop_all}
+use mathlib.Core.Path.{◌≡◌, refl, sym, ap, subst, ◌∙◌}
+use mathlib.Core.Bool.{Bool, true, false, true≢false, ◌&&◌, ◌||◌, cond}
+use mathlib.Core.Logic.{◌≢◌}
+use mathlib.Core.List.{List, [], ◌∷◌}
+use Prim.Native.Nat.{ℕ, zero, suc, ◌+◌, ◌^◌, ◌≤◌, ◌<◌}
+use native.Mathlib.Omega.{arith}
+use borrow.Author.Tests.{eq-eqb, ne_eqb}
+use lib.Dec.{eqb}
+use lib.ListN.{length, get_or, drop}
+use lib.Seq.{drop-cons}
+use Rattle.sizes.specs.Sizes.{most_nodes, kind_column, kind_at, side_len_column, left_at, right_at, left_window, right_window}
+use Rattle.totdb.specs.Nodes.{Node, leaf, join, node_at, plain_or}
+use Rattle.totdb.specs.declared.Side.{Side}
+use Rattle.cert.specs.Sized.{Sized, Fit}
+use Rattle.rows.specs.Rows.{row_of, KindOf, Table}
+use Rattle.rows.specs.Windows.{SideAt, at_left, at_right, shows, window_from, window_at}
+use Rattle.rows.proofs.Reading.{in_row, numbers}
+use Rattle.rows.proofs.Sides.{shows_not, from_append, window_shown}
+use Rattle.nodes.specs.Added.{window_place}
+
+-- ---- the sides of one node
+
+module _ {ns : List ℕ} {t : List Node} (tb : Table ns t) (n f m : ℕ) where
+  -- The side whose numbers stand at p.
+  pub shows_read : {p w : ℕ} {s : Side} → SideAt t p w s
+      → (eqb (get_or ns p 0) n && eqb (get_or ns (p + 1) 0) f && eqb (get_or ns (p + side_len_column) 0) m) ≡ shows t n f m s
+  unfolding shows
+  shows_read of =
+      let e = (numbers tb of).0 in
+      rw (ap (λ (u : Side). u.node) e, ap (λ (u : Side). u.offset) e, (numbers tb of).1)
+
+  module _ (i : ℕ) (there : i < length t) where
+    kind : (x : Node) → node_at t i ≡ x → KindOf (row_of ns i) t x
+    kind x e = subst (KindOf (row_of ns i) t) e (tb.has.row i there).kind
+
+    -- A leaf has no sides.
+    pub window_leaf : get_or ns (kind_at i) 0 ≡ 0 → window_from t n f m (node_at t i ∷ []) i ≡ 0
+    unfolding KindOf window_from
+    window_leaf z = by (node_at t i) refl
+      where
+        by : (x : Node) → node_at t i ≡ x → window_from t n f m (x ∷ []) i ≡ 0
+        by (leaf l) e = refl
+        by (join ls o l r) e = absurd (omega (arith, (kind (join ls o l r) e).0, in_row ns i kind_column (omega arith)))
+
+    -- The sides of a join.
+    pub record JoinSides : Type 0 where
+      pub left : Side
+      pub right : Side
+      pub left_of : SideAt t (left_at i) (left_window i) left
+      pub right_of : SideAt t (right_at i) (right_window i) right
+      pub is : window_from t n f m (node_at t i ∷ []) i ≡ cond (shows t n f m left) (left_window i) (cond (shows t n f m right) (right_window i) 0)
+
+    pub join_sides : get_or ns (kind_at i) 0 ≢ 0 → JoinSides
+    unfolding KindOf window_from
+    join_sides z = by (node_at t i) refl
+      where
+        by : (x : Node) → node_at t i ≡ x → JoinSides
+        by (leaf l) e = absurd (z (in_row ns i kind_column (omega arith) ∙ kind (leaf l) e))
+        by (join ls o l r) e = record {
+          left = l;
+          right = r;
+          left_of = at_left i ls o l r there e;
+          right_of = at_right i ls o l r there e;
+          is = rw e;
+        }
+
+-- ---- the sides of all nodes
+
+module _ (t : List Node) (n f m : ℕ) where
+  -- The sides of the node i, then those of the nodes after it.
+  from_next : (i : ℕ) → i < length t
+      → window_from t n f m (drop i t) i
+      ≡ cond (eqb (window_from t n f m (node_at t i ∷ []) i) 0) (window_from t n f m (drop (suc i) t) (suc i)) (window_from t n f m (node_at t i ∷ []) i)
+  unfolding node_at
+  from_next i h =
+      let e : i + 1 ≡ suc i = omega arith in
+      rw (drop-cons t i (leaf 0) h) (rw e at (from_append t n f m (node_at t i ∷ []) (drop (suc i) t) i))
+
+  -- No node up to n has a side over n.
+  window_low : Sized t → (i : ℕ) → i ≤ n → i < length t → window_from t n f m (node_at t i ∷ []) i ≡ 0
+  unfolding window_from Sized Fit
+  window_low sized i low h = by (node_at t i) (sized i h)
+    where
+      by : (x : Node) → Fit t i x → window_from t n f m (x ∷ []) i ≡ 0
+      by (leaf l) k = refl
+      by (join ls o l r) k = rw (shows_not t n f m l (λ e. omega (arith, k.0)), shows_not t n f m r (λ e. omega (arith, k.1)))
+
+  pub from_after : Sized t → (i : ℕ) → i ≤ suc n → i ≤ length t → window_from t n f m (drop i t) i ≡ window_at t n f m
+  unfolding window_at
+  from_after sized zero low h = refl
+  from_after sized (suc i) low h =
+      sym (rw (window_low sized i (omega arith) (omega arith)) at (from_next i (omega arith))) ∙ from_after sized i (omega arith) (omega arith)
+
+-- No side of the nodes before i shows the window.
+abbrev pub NoneBefore : List ℕ → ℕ → Side → ℕ → ℕ → Type 0
+NoneBefore ns n s m i = (t : List Node) → Table ns t → length t ≡ n → window_from t s.node s.offset m (drop i t) i ≡ window_at t s.node s.offset m
+
+module _ (ns : List ℕ) (n : ℕ) (s : Side) (m : ℕ) where
+  pub none_first : s.node < n → NoneBefore ns n s m (s.node + 1)
+  none_first h t tb e = from_after t s.node s.offset m tb.bounded.sized (s.node + 1) (omega arith) (omega arith)
+
+  module _ (i : ℕ) (none : NoneBefore ns n s m i) (t : List Node) (tb : Table ns t) (e : length t ≡ n) where
+    pub found_here : i < n → window_from t s.node s.offset m (node_at t i ∷ []) i ≢ 0
+        → window_from t s.node s.offset m (node_at t i ∷ []) i ≡ window_at t s.node s.offset m
+    found_here h some =
+        sym (from_next t s.node s.offset m i (omega arith) ∙ rw (ne_eqb (window_from t s.node s.offset m (node_at t i ∷ []) i) 0 some)) ∙ none t tb e
+
+    pub none_next : i < n → window_from t s.node s.offset m (node_at t i ∷ []) i ≡ 0
+        → window_from t s.node s.offset m (drop (i + 1) t) (i + 1) ≡ window_at t s.node s.offset m
+    none_next h z =
+        let k : i + 1 ≡ suc i = omega arith in
+        rw k (sym (rw z at (from_next t s.node s.offset m i (omega arith))) ∙ none t tb e)
+
+    pub none_last : n ≤ i → 0 ≡ window_at t s.node s.offset m
+    unfolding window_from
+    none_last h = rw (drop_all i t (omega arith)) at (none t tb e)
+
+-- ---- a new side
+
+pub place_low : (t : List Node) (s : Side) (m w : ℕ) → length t ≤ most_nodes → w < 2 ^ 32 → window_place t s m w < 2 ^ 32
+unfolding window_place
+place_low t s m w few low = by (plain_or s.offset s.limit true false) (eqb (window_at t s.node s.offset m) 0) refl
+  where
+    inside : {p v : ℕ} {u : Side} → SideAt t p v u → v < 2 ^ 32
+    inside (at_left i ls o l r h e) = omega arith
+    inside (at_right i ls o l r h e) = omega arith
+
+    by : (p b : Bool) → eqb (window_at t s.node s.offset m) 0 ≡ b → cond (p || b) w (window_at t s.node s.offset m) < 2 ^ 32
+    by true b e = low
+    by false true e = low
+    by false false e = inside (window_shown t s.node s.offset m (λ z. true≢false (sym (eq-eqb (window_at t s.node s.offset m) 0 z) ∙ e))).of
