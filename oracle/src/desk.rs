@@ -1,4 +1,4 @@
-//! Document 01's questions in their order, put to each command before rustsat sees it.
+//! Document 01's questions in their order, with document 02's, put to each command before rustsat sees it.
 
 use crate::{
     counters::Counters,
@@ -11,6 +11,8 @@ const MOST_BYTES: usize = 65_536;
 pub const MOST_HEAD: u32 = 100_000_000;
 /// Leaves (question 7).
 const MOST_LEAVES: usize = 64;
+/// Joins (question 15).
+pub const MOST_JOINS: usize = 255;
 
 /// The number of the question that was answered no.
 struct Refusal(u32);
@@ -27,13 +29,22 @@ fn ask(number: u32, yes: bool) -> Result<(), Refusal> {
 struct Desk {
     first_variable: u32,
     leaves: Vec<u32>,
-    under_join: Vec<bool>,
+    below: Vec<u64>,
     closed: bool,
 }
 
 impl Desk {
     fn exists(&self, node: u32) -> bool {
-        (node as usize) < self.under_join.len()
+        (node as usize) < self.below.len()
+    }
+
+    /// The leaves below a node, whatever windows hide: bit i for the i-th made. A leaf lies below itself.
+    fn below(&self, side: Side) -> u64 {
+        self.below[side.node as usize]
+    }
+
+    fn joins(&self) -> usize {
+        self.below.len() - self.leaves.len()
     }
 
     fn fits(&self, side: Side, counters: &Counters) -> bool {
@@ -49,7 +60,7 @@ impl Desk {
         Command::arguments(code, reader).ok_or(Refusal(2))
     }
 
-    /// Questions 6 to 12.
+    /// Questions 6 to 12, and 15.
     fn judge(&self, command: Command, counters: &Counters) -> Result<(), Refusal> {
         match command {
             Command::Leaf(literal) => {
@@ -60,8 +71,8 @@ impl Desk {
             }
             Command::Join(left, right) => {
                 ask(8, self.exists(left.node) && self.exists(right.node))?;
-                let free = |s: Side| !self.under_join[s.node as usize];
-                ask(9, left.node != right.node && free(left) && free(right))?;
+                ask(9, self.below(left) & self.below(right) == 0)?;
+                ask(15, self.joins() < MOST_JOINS)?;
                 ask(10, self.fits(left, counters) && self.fits(right, counters))
             }
             Command::Request { node, value, direction } => {
@@ -77,15 +88,11 @@ impl Desk {
         match command {
             Command::Leaf(literal) => {
                 if !self.leaves.contains(&literal) {
+                    self.below.push(1 << self.leaves.len());
                     self.leaves.push(literal);
-                    self.under_join.push(false);
                 }
             }
-            Command::Join(left, right) => {
-                self.under_join[left.node as usize] = true;
-                self.under_join[right.node as usize] = true;
-                self.under_join.push(false);
-            }
+            Command::Join(left, right) => self.below.push(self.below(left) | self.below(right)),
             Command::Request { .. } => (),
             Command::Close => self.closed = true,
         }
@@ -149,7 +156,7 @@ pub fn play(case: &Case) -> Answer {
         Err(refusal) => return refused(refusal),
     };
     let mut counters = Counters::new(first_variable, first_step);
-    let mut desk = Desk { first_variable, leaves: vec![], under_join: vec![], closed: false };
+    let mut desk = Desk { first_variable, leaves: vec![], below: vec![], closed: false };
     let mut answer = Answer::default();
     while !reader.rest.is_empty() {
         let result = command(&mut reader, case.capacity, &mut desk, &mut counters);

@@ -45,6 +45,13 @@ pub struct Side {
     pub limit: u32,
 }
 
+impl Side {
+    /// The whole node.
+    pub fn plain(node: u32) -> Side {
+        Side { node, offset: 0, limit: 0 }
+    }
+}
+
 #[derive(Clone, Copy)]
 pub enum Command {
     Leaf(u32),
@@ -80,6 +87,21 @@ impl Command {
             }
             Command::Close => put(out, 4),
         }
+    }
+}
+
+/// The commands after the head, up to the first that does not read.
+pub fn commands(script: &[u8]) -> Vec<Command> {
+    let mut reader = Reader { rest: script };
+    let head = [reader.number(), reader.number()];
+    let next = || {
+        let code = reader.number().filter(|code| (1..=4).contains(code))?;
+        Command::arguments(code, &mut reader)
+    };
+    if head.contains(&None) {
+        vec![]
+    } else {
+        std::iter::from_fn(next).collect()
     }
 }
 

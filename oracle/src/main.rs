@@ -46,17 +46,20 @@ fn write_out(bytes: &[u8]) {
     io::stdout().write_all(bytes).expect("standard output takes the bytes");
 }
 
-/// How many scripts were accepted and how many refused by each number, and what they wrote.
+/// How many scripts were accepted and how many refused by each number, how many of the accepted have a node under several
+/// joins, and what all wrote.
 #[derive(Default)]
 struct Answered {
     by_number: BTreeMap<u32, u32>,
+    shared: u32,
     bytes: u64,
     clauses: u64,
 }
 
 impl Answered {
-    fn add(&mut self, answer: &Answer) {
+    fn add(&mut self, case: &Case, answer: &Answer) {
         *self.by_number.entry(answer.number).or_default() += 1;
+        self.shared += u32::from(answer.number == 0 && generate::has_shared_node(&case.script));
         self.bytes += u64::from(answer.length);
         self.clauses += u64::from(answer.clauses);
     }
@@ -66,7 +69,7 @@ impl fmt::Display for Answered {
     fn fmt(&self, f: &mut fmt::Formatter<'_>) -> fmt::Result {
         for (number, count) in &self.by_number {
             match number {
-                0 => write!(f, "{count} accepted")?,
+                0 => write!(f, "{count} accepted, {} of them with a node under several joins", self.shared)?,
                 _ => write!(f, ", {count} refused by {number}")?,
             }
         }
@@ -112,7 +115,7 @@ fn run(seed: u64, count: u32) -> ExitCode {
             println!("{fault}\nscript {}", hex(&case.script));
             return ExitCode::FAILURE;
         }
-        answered.add(&answer);
+        answered.add(&case, &answer);
     }
     println!("{answered}; every clause is its step's sum");
     ExitCode::SUCCESS
@@ -179,7 +182,7 @@ fn check_recorded() -> ExitCode {
             println!("{}", checked.err().unwrap_or_default());
             return ExitCode::FAILURE;
         }
-        answered.add(&answer);
+        answered.add(&case, &answer);
     }
     if count == 0 || !reader.rest.is_empty() {
         println!("no recorded answers, or bytes after the last");
