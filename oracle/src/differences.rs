@@ -7,9 +7,9 @@ use crate::{
     checker::{check, get_record, Record},
     counters::Counters,
     desk::{act, play},
-    format::{hex, Case, Command, Reader},
+    format::{hex, Answer, Case, Command, Reader},
     generate::{first_step, WHOLE_LOG},
-    refusals::many_leaves,
+    refusals::{many_joins, many_leaves},
 };
 
 /// Two leaves and their join, node 2 of length 2, on the variables 2 and 3.
@@ -17,7 +17,16 @@ const PAIR: &[u8] = &[2, 1, 1, 0, 1, 2, 2, 0, 0, 0, 1, 0, 0];
 /// Three leaves and the join of the first two, node 3 of length 2, on the variables 3 and 4.
 const PAIR_AND_LEAF: &[u8] = &[3, 1, 1, 0, 1, 2, 1, 4, 2, 0, 0, 0, 1, 0, 0];
 
-/// A title, and the smallest script that shows the difference.
+/// Four leaves; node 5 joins the first three, node 6 takes its outputs from the second on, node 7 the same by a limit.
+const WINDOWS: &[u8] = &[
+    4, 1, 1, 0, 1, 2, 1, 4, 1, 6, 2, 0, 0, 0, 1, 0, 0, 2, 4, 0, 0, 2, 0, 0, //
+    2, 5, 1, 0, 3, 0, 0, 2, 5, 1, 2, 3, 0, 0, 3, 6, 2, 1, 3, 7, 2, 1,
+];
+
+/// Of a script so many bytes are shown.
+const SHOWN: usize = 200;
+
+/// A title, and the smallest script that shows the difference, or what the documents leave to rustsat.
 fn differences() -> Vec<(&'static str, Vec<u8>)> {
     let on_pair = |rest: &[u8]| [PAIR, rest].concat();
     let on_both = |rest: &[u8]| [PAIR_AND_LEAF, rest].concat();
@@ -35,7 +44,10 @@ fn differences() -> Vec<(&'static str, Vec<u8>)> {
         ("a leaf and its negation (question 7)", vec![2, 1, 1, 0, 1, 1, 2, 0, 0, 0, 1, 0, 0, 3, 2, 1, 1]),
         ("a 65th leaf (question 7)", many_leaves(65)),
         ("one node on both sides (question 9)", vec![2, 1, 1, 0, 2, 0, 0, 0, 0, 0, 0, 3, 1, 1, 1]),
-        ("one node under two joins (question 9)", on_both(&[2, 0, 0, 0, 2, 0, 0, 3, 3, 1, 1, 3, 4, 1, 1])),
+        ("a leaf and a join over it (question 9)", on_pair(&[2, 2, 0, 0, 0, 0, 0, 3, 3, 1, 1])),
+        ("a leaf and a window of a join over it (question 9)", on_pair(&[2, 2, 1, 0, 0, 0, 0, 3, 3, 1, 1])),
+        ("a 256th join (question 15)", many_joins(256)),
+        ("two windows of the same outputs, one by a limit (document 02, §5)", WINDOWS.to_vec()),
         ("value 0 (question 11)", on_pair(&[3, 2, 0, 1])),
         ("the value one above the last (question 11)", on_pair(&[3, 2, 3, 1])),
         ("a leaf's value 2 (question 11)", vec![2, 1, 1, 0, 3, 0, 2, 1]),
@@ -101,11 +113,15 @@ fn panic_text(cause: Box<dyn std::any::Any + Send>) -> String {
     text.lines().map(str::trim).collect::<Vec<_>>().join(" ")
 }
 
-fn print_played(counters: &Counters, script: &[u8]) {
+fn print_played(counters: &Counters, script: &[u8], ours: &Answer) {
     let [steps, clauses, nodes] = [counters.steps(), counters.clauses(), counters.nodes()];
-    println!("  rustsat: {} bytes, {steps} steps, {clauses} clauses, {nodes} nodes", counters.log_length());
     let log = counters.log();
-    show_log(&log).iter().for_each(|line| println!("    {line}"));
+    if ours.number == 0 && log == ours.log {
+        println!("  rustsat: the same log");
+    } else {
+        println!("  rustsat: {} bytes, {steps} steps, {clauses} clauses, {nodes} nodes", log.len());
+        show_log(&log).iter().for_each(|line| println!("    {line}"));
+    }
     let first_step = first_step(script).expect("a whole script");
     let verdict = check(&log, first_step).err().unwrap_or("every clause is its step's sum".into());
     println!("  checked: {verdict}");
@@ -116,7 +132,8 @@ pub fn print() {
     println!("rustsat with debug assertions {assertions}");
     std::panic::set_hook(Box::new(|_| ()));
     for (title, script) in differences() {
-        println!("\n{title}\n  script {}", hex(&script));
+        let cut = if script.len() > SHOWN { " .." } else { "" };
+        println!("\n{title}\n  script {}{cut}", hex(&script[..script.len().min(SHOWN)]));
         let ours = play(&Case { script: script.clone(), capacity: WHOLE_LOG });
         println!("  documents: {} at {}", ours.number, ours.place);
         if ours.number == 0 {
@@ -125,7 +142,7 @@ pub fn print() {
         }
         match catch_unwind(AssertUnwindSafe(|| play_unasked(&script))) {
             Err(cause) => println!("  rustsat: panics: {}", panic_text(cause)),
-            Ok(counters) => print_played(&counters, &script),
+            Ok(counters) => print_played(&counters, &script, &ours),
         }
     }
 }

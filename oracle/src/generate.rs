@@ -72,11 +72,12 @@ impl Draft {
         }
     }
 
-    /// More often than not what an earlier side of the node shows, where there is one. A limit that the node's end makes
+    /// More often than not the outputs of an earlier window of the node, where there is one. A limit that the node's end makes
     /// needless is set or not.
     fn window(&self, random: &mut Random, node: u32) -> Side {
         let length = self.lengths[node as usize];
-        let earlier: Vec<Side> = self.sides.iter().copied().filter(|side| side.node == node).collect();
+        let is_earlier = |side: &Side| side.node == node && self.length(*side) < length;
+        let earlier: Vec<Side> = self.sides.iter().copied().filter(is_earlier).collect();
         let (offset, outputs) = if !earlier.is_empty() && random.chance(60) {
             let side = random.pick(&earlier);
             (side.offset, self.length(side))
@@ -112,12 +113,12 @@ impl Draft {
         }
     }
 
-    /// Two nodes with a leaf below both, or with none, in either order. The first is any, or one of the last made, or, half
-    /// of the time, one of those given. It may have no such other one: a few are tried.
+    /// Two nodes with a leaf below both, or with none, in either order. The first is one of those given, or of the last
+    /// made, or any. It may have no such other one: a few are tried.
     fn pair(&self, random: &mut Random, given: &[u32], common: bool) -> Option<[u32; 2]> {
         let last = self.nodes() - 1;
         for _ in 0..20 {
-            let first = match random.from(0, 3) {
+            let first = match random.from(0, 4) {
                 0 => random.from(0, last),
                 1 => random.from(last - last / 4, last),
                 _ if given.is_empty() => continue,

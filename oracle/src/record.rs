@@ -3,7 +3,7 @@
 use crate::{
     desk::{play, MOST_HEAD},
     format::{put, Answer, Case, Command, Side, LEAST_OF_GROUPS},
-    generate::{case, damaged, large_script, script, WHOLE_LOG},
+    generate::{case, damaged, large_script, script, shared_script, tree_script, WHOLE_LOG},
     random::Random,
     refusals,
 };
@@ -17,8 +17,7 @@ fn joined(variable: u32, step: u32, leaves: [u32; 2]) -> Vec<u8> {
     put(&mut script, variable);
     put(&mut script, step);
     leaves.iter().for_each(|literal| Command::Leaf(*literal).put(&mut script));
-    let [left, right] = [0, 1].map(|node| Side { node, offset: 0, limit: 0 });
-    Command::Join(left, right).put(&mut script);
+    Command::Join(Side::plain(0), Side::plain(1)).put(&mut script);
     [1, 2].iter().for_each(|value| Command::Request { node: 2, value: *value, direction: 3 }.put(&mut script));
     Command::Close.put(&mut script);
     script
@@ -77,11 +76,10 @@ fn full_limits() -> Vec<Vec<u8>> {
 /// 64 leaves in pairs, each pair joined before the next. Then the newest leaf, the oldest and one between them again, an
 /// output of the first join and of the last both ways, and such leaves as are given.
 fn runs(more: &[u32]) -> Vec<u8> {
-    let plain = |node| Side { node, offset: 0, limit: 0 };
     let mut script = vec![65, 1];
     for pair in 0..32 {
         [4 * pair, 4 * pair + 2].iter().for_each(|literal| Command::Leaf(*literal).put(&mut script));
-        Command::Join(plain(3 * pair), plain(3 * pair + 1)).put(&mut script);
+        Command::Join(Side::plain(3 * pair), Side::plain(3 * pair + 1)).put(&mut script);
     }
     [126, 0, 62].iter().for_each(|literal| Command::Leaf(*literal).put(&mut script));
     [2, 95].iter().for_each(|node| Command::Request { node: *node, value: 1, direction: 3 }.put(&mut script));
@@ -92,6 +90,29 @@ fn runs(more: &[u32]) -> Vec<u8> {
 /// The negations of the newest leaf and of the oldest, and a leaf too many, are refused.
 fn leaf_runs() -> Vec<Vec<u8>> {
     [&[][..], &[126, 0], &[127], &[1], &[126, 1], &[128]].map(runs).to_vec()
+}
+
+/// A counter of three leaves, node 6, under two joins: with the leaf 3 by one window of it, with the leaf 4 by another. Then
+/// both joins' outputs both ways, the last first or the first first, and a close.
+fn two_windows(first: [u32; 2], second: [u32; 2], nodes: [u32; 2]) -> Vec<u8> {
+    let mut script = vec![5, 1];
+    let side = |[offset, limit]: [u32; 2]| Side { node: 6, offset, limit };
+    (0..5).for_each(|leaf| Command::Leaf(2 * leaf).put(&mut script));
+    Command::Join(Side::plain(0), Side::plain(1)).put(&mut script);
+    Command::Join(Side::plain(5), Side::plain(2)).put(&mut script);
+    Command::Join(side(first), Side::plain(3)).put(&mut script);
+    Command::Join(side(second), Side::plain(4)).put(&mut script);
+    nodes.iter().for_each(|node| Command::Request { node: *node, value: 2, direction: 3 }.put(&mut script));
+    Command::Close.put(&mut script);
+    script
+}
+
+/// The whole counter, its limit set or not, and windows of two outputs and of one: of the same outputs too, which rustsat
+/// defines once, whether a limit is set or not.
+fn windows_of_one_node() -> Vec<Vec<u8>> {
+    let windows = [[0, 0], [0, 3], [1, 0], [1, 2], [0, 2], [2, 0], [2, 1]];
+    let pairs = windows.iter().flat_map(|first| windows.map(|second| (*first, second)));
+    pairs.enumerate().map(|(i, (a, b))| two_windows(a, b, if i % 2 == 0 { [7, 8] } else { [8, 7] })).collect()
 }
 
 pub fn list() -> Vec<(Case, Answer)> {
@@ -113,13 +134,15 @@ pub fn list() -> Vec<(Case, Answer)> {
         }
         kept
     };
-    for script in at_limits().into_iter().chain(full_limits()).chain(leaf_runs()) {
+    for script in at_limits().into_iter().chain(full_limits()).chain(leaf_runs()).chain(windows_of_one_node()) {
         add(Case { script, capacity: WHOLE_LOG }, MOST_LOG);
     }
-    let mut left = 1_300;
-    while left > 0 {
-        let script = script(&mut random, 16);
-        left -= u32::from(add(Case { script, capacity: WHOLE_LOG }, MOST_LOG));
+    for (count, script) in [(1_000, tree_script as fn(&mut Random, u32) -> Vec<u8>), (300, shared_script)] {
+        let mut left = count;
+        while left > 0 {
+            let script = script(&mut random, 16);
+            left -= u32::from(add(Case { script, capacity: WHOLE_LOG }, MOST_LOG));
+        }
     }
     let mut left = 300;
     while left > 0 {

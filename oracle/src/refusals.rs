@@ -1,7 +1,7 @@
-//! Scripts that document 01 refuses, and neighbours that it accepts, with the number and the place written by
-//! hand from its questions.
+//! Scripts that the documents refuse, and neighbours that they accept, with the number and the place written by hand from
+//! their questions.
 
-use crate::format::Case;
+use crate::format::{Case, Command, Side};
 
 /// A script, the log's length, and the number and place expected.
 pub struct Expected {
@@ -17,6 +17,12 @@ const THREE: &[u8] = &[4, 1, 1, 0, 1, 2, 1, 4, 1, 6, 2, 0, 0, 0, 1, 0, 0, 2, 4, 
 
 /// Document 01's whole case.
 pub const PAIR: &[u8] = &[2, 1, 1, 0, 1, 2, 2, 0, 0, 0, 1, 0, 0, 3, 2, 1, 1];
+
+/// Leaves 0 2 4; node 3 joins the first two, node 4 the first and the last.
+const LEG: &[u8] = &[3, 1, 1, 0, 1, 2, 1, 4, 2, 0, 0, 0, 1, 0, 0, 2, 0, 0, 0, 2, 0, 0];
+
+/// Leaves 0 2 4 6; node 4 joins the first two, node 5 its second output and the third leaf.
+const HIDDEN: &[u8] = &[4, 1, 1, 0, 1, 2, 1, 4, 1, 6, 2, 0, 0, 0, 1, 0, 0, 2, 4, 1, 1, 2, 0, 0];
 
 /// 268,435,455, the largest number.
 const LARGEST: &[u8] = &[0xff, 0xff, 0xff, 0x7f];
@@ -38,8 +44,15 @@ const STEPS: &[u8] = &[2, 0xfe, 0xff, 0x7f, 1, 0, 1, 2, 2, 0, 0, 0, 1, 0, 0, 3, 
 pub fn many_leaves(count: u32) -> Vec<u8> {
     let mut script = vec![0xc8, 1, 1];
     for leaf in 0..count {
-        crate::format::Command::Leaf(2 * leaf).put(&mut script);
+        Command::Leaf(2 * leaf).put(&mut script);
     }
+    script
+}
+
+/// Two leaves, and so many joins of them, nodes from 2 on.
+pub fn many_joins(count: usize) -> Vec<u8> {
+    let mut script = PAIR[..6].to_vec();
+    (0..count).for_each(|_| Command::Join(Side::plain(0), Side::plain(1)).put(&mut script));
     script
 }
 
@@ -144,12 +157,38 @@ pub fn list() -> Vec<Expected> {
     add(8, 1, WHOLE, &[&[2, 1, 3, 0, 1, 1]]);
     add(8, 4, WHOLE, &[&PAIR[..13], &[3], LARGEST, &[1, 1]]);
 
-    // 9: two different nodes, neither under a join, before 10
+    // 9: no leaf below both sides, a leaf below itself, whatever windows hide; before 15 and 10
     add(9, 3, WHOLE, &[&PAIR[..6], &[2, 0, 0, 0, 0, 0, 0]]);
     add(9, 4, WHOLE, &[&PAIR[..13], &[2, 0, 0, 0, 2, 0, 0]]);
     add(9, 4, WHOLE, &[&PAIR[..13], &[2, 2, 0, 0, 1, 0, 0]]);
     add(9, 4, WHOLE, &[&PAIR[..13], &[2, 2, 7, 7, 1, 7, 7]]);
     add(9, 4, WHOLE, &[&PAIR[..13], &[2, 2, 7, 0, 2, 0, 0]]);
+    add(9, 4, WHOLE, &[&PAIR[..13], &[2, 2, 0, 1, 2, 1, 0]]);
+    add(0, 5, WHOLE, &[LEG]);
+    add(0, 7, WHOLE, &[LEG, &[3, 3, 1, 1, 3, 4, 1, 1]]);
+    add(0, 7, WHOLE, &[LEG, &[2, 0, 0, 0, 1, 0, 0, 2, 1, 0, 0, 4, 0, 0]]);
+    add(9, 6, WHOLE, &[LEG, &[2, 0, 0, 0, 0, 0, 0]]);
+    add(9, 6, WHOLE, &[LEG, &[2, 3, 0, 0, 4, 0, 0]]);
+    add(9, 6, WHOLE, &[LEG, &[2, 4, 1, 1, 3, 1, 1]]);
+    add(9, 6, WHOLE, &[LEG, &[2, 4, 2, 0, 3, 0, 0]]);
+    add(0, 7, WHOLE, &[HIDDEN, &[2, 5, 1, 1, 3, 0, 0]]);
+    add(9, 7, WHOLE, &[HIDDEN, &[2, 5, 0, 0, 0, 0, 0]]);
+    add(9, 7, WHOLE, &[HIDDEN, &[2, 5, 1, 1, 1, 0, 0]]);
+    add(9, 7, WHOLE, &[HIDDEN, &[2, 2, 0, 0, 5, 0, 1]]);
+    add(9, 7, WHOLE, &[HIDDEN, &[2, 4, 0, 1, 5, 1, 0]]);
+
+    // 15: fewer than 255 joins, after 8 and 9 and before 10; leaves, requests and a close go on
+    add(0, 257, WHOLE, &[&many_joins(255)]);
+    add(15, 258, WHOLE, &[&many_joins(256)]);
+    add(15, 258, WHOLE, &[&many_joins(300)]);
+    add(8, 258, WHOLE, &[&many_joins(255), &[2, 0, 0, 0, 0x81, 2, 0, 0]]);
+    add(9, 258, WHOLE, &[&many_joins(255), &[2, 0, 0, 0, 0x80, 2, 0, 0]]);
+    add(9, 258, WHOLE, &[&many_joins(255), &[2, 1, 7, 7, 1, 7, 7]]);
+    add(15, 258, WHOLE, &[&many_joins(255), &[2, 0, 7, 7, 1, 7, 7]]);
+    add(10, 257, WHOLE, &[&many_joins(254), &[2, 0, 7, 7, 1, 7, 7]]);
+    add(9, 257, WHOLE, &[&many_joins(254), &[2, 0, 0, 0, 0, 0, 0]]);
+    add(0, 261, WHOLE, &[&many_joins(255), &[1, 0, 3, 2, 1, 1, 3, 0x80, 2, 2, 3, 4]]);
+    add(15, 259, WHOLE, &[&many_joins(255), &[3, 0x80, 2, 2, 3, 2, 0, 0, 0, 1, 0, 0]]);
 
     // 10: what a side shows lies in its node; the whole node passes
     add(0, 7, WHOLE, &[THREE, &[2, 5, 2, 0, 3, 0, 0]]);
