@@ -8,11 +8,12 @@ static const char *const reasons[] = { // what it means that a question was answ
     [TOTLOG_LEAF_VARIABLE] = "the leaf's variable is not below the first output variable",
     [TOTLOG_LEAF] = "the leaf's negation is a leaf, or there are 64 leaves already",
     [TOTLOG_NO_NODE] = "there is no such node",
-    [TOTLOG_NODE_IN_USE] = "the two nodes are one, or one of them is under a join already",
+    [TOTLOG_SHARED_LEAF] = "a leaf lies below both nodes (it lies below itself, and windows hide no leaf)",
     [TOTLOG_WINDOW] = "an offset is not below its node's length, or a limit is above what the offset leaves of it",
     [TOTLOG_VALUE] = "the value is not 1 to the node's length",
     [TOTLOG_DIRECTION] = "the direction is not 1 (if), 2 (only-if) or 3 (both)",
     [TOTLOG_LOG_FULL] = "what it writes does not fit in the log",
+    [TOTLOG_TOO_MANY_JOINS] = "there are 255 joins already",
 };
 
 void explain(FILE *to, const uint32_t answer[NUMBERS], const struct bytes *script, size_t log_size) {

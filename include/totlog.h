@@ -36,11 +36,12 @@ enum {
     TOTLOG_LEAF_VARIABLE = 6,  // the leaf's variable is not below the first output variable
     TOTLOG_LEAF = 7,           // the leaf's negation is a leaf, or there are 64 leaves
     TOTLOG_NO_NODE = 8,        // there is no such node
-    TOTLOG_NODE_IN_USE = 9,    // a join of a node with itself, or of a node that is under a join
+    TOTLOG_SHARED_LEAF = 9,    // a leaf lies below both nodes of the join, through windows or not; a leaf lies below itself
     TOTLOG_WINDOW = 10,        // the offset is not below the node's length, or the limit is above what the offset leaves of it
     TOTLOG_VALUE = 11,         // the value requested is not 1 to the node's length
     TOTLOG_DIRECTION = 12,     // the direction is not 1 (if), 2 (only-if) or 3 (both)
-    TOTLOG_LOG_FULL = 14       // what the command writes does not fit in the log
+    TOTLOG_LOG_FULL = 14,      // what the command writes does not fit in the log
+    TOTLOG_TOO_MANY_JOINS = 15 // there are 255 joins
 };
 
 // Plays a script, writes the log, and answers. `script` is only read.

@@ -92,27 +92,39 @@ fn leaf_runs() -> Vec<Vec<u8>> {
     [&[][..], &[126, 0], &[127], &[1], &[126, 1], &[128]].map(runs).to_vec()
 }
 
-/// A counter of three leaves, node 6, under two joins: with the leaf 3 by one window of it, with the leaf 4 by another. Then
-/// both joins' outputs both ways, the last first or the first first, and a close.
-fn two_windows(first: [u32; 2], second: [u32; 2], nodes: [u32; 2]) -> Vec<u8> {
-    let mut script = vec![5, 1];
-    let side = |[offset, limit]: [u32; 2]| Side { node: 6, offset, limit };
-    (0..5).for_each(|leaf| Command::Leaf(2 * leaf).put(&mut script));
-    Command::Join(Side::plain(0), Side::plain(1)).put(&mut script);
-    Command::Join(Side::plain(5), Side::plain(2)).put(&mut script);
-    Command::Join(side(first), Side::plain(3)).put(&mut script);
-    Command::Join(side(second), Side::plain(4)).put(&mut script);
-    nodes.iter().for_each(|node| Command::Request { node: *node, value: 2, direction: 3 }.put(&mut script));
+/// A counter of the leaves 0 up to `length` - 1 under two joins, by one window of it with the next leaf, by another with the
+/// one after. Then an output of each join both ways, of the second first where `turned`, and a close.
+fn two_windows(length: u32, windows: [[u32; 2]; 2], turned: bool) -> Vec<u8> {
+    let leaves = length + 2;
+    let mut script = vec![leaves as u8, 1];
+    (0..leaves).for_each(|leaf| Command::Leaf(2 * leaf).put(&mut script));
+    let mut counter = 0;
+    for leaf in 1..length {
+        Command::Join(Side::plain(counter), Side::plain(leaf)).put(&mut script);
+        counter = leaves + leaf - 1;
+    }
+    for ([offset, limit], leaf) in windows.into_iter().zip(length..) {
+        Command::Join(Side { node: counter, offset, limit }, Side::plain(leaf)).put(&mut script);
+    }
+    let joins = if turned { [counter + 2, counter + 1] } else { [counter + 1, counter + 2] };
+    joins.iter().for_each(|node| Command::Request { node: *node, value: 2, direction: 3 }.put(&mut script));
     Command::Close.put(&mut script);
     script
 }
 
-/// The whole counter, its limit set or not, and windows of two outputs and of one: of the same outputs too, which rustsat
-/// defines once, whether a limit is set or not.
+/// A counter of three under two joins: whole, its limit set or not, and by windows of two outputs and of one. Then, of three
+/// and of four, windows of the same outputs: rustsat defines them once, whether a limit is set or not.
 fn windows_of_one_node() -> Vec<Vec<u8>> {
-    let windows = [[0, 0], [0, 3], [1, 0], [1, 2], [0, 2], [2, 0], [2, 1]];
-    let pairs = windows.iter().flat_map(|first| windows.map(|second| (*first, second)));
-    pairs.enumerate().map(|(i, (a, b))| two_windows(a, b, if i % 2 == 0 { [7, 8] } else { [8, 7] })).collect()
+    let windows = [[0, 0], [0, 3], [1, 0], [0, 2], [2, 0], [1, 1]];
+    let pairs = windows.iter().flat_map(|first| windows.map(|second| [*first, second]));
+    let other = pairs.enumerate().map(|(i, windows)| two_windows(3, windows, i % 2 == 1));
+    let lengths = [(3, 1), (4, 1), (4, 2)];
+    let forms = [(false, false), (false, true), (true, false), (true, true)];
+    let same = lengths.iter().flat_map(|&(length, offset)| {
+        let shown = move |limited| [offset, if limited { length - offset } else { 0 }];
+        forms.map(|(first, second)| two_windows(length, [shown(first), shown(second)], second))
+    });
+    other.chain(same).collect()
 }
 
 pub fn list() -> Vec<(Case, Answer)> {

@@ -24,6 +24,13 @@ const LEG: &[u8] = &[3, 1, 1, 0, 1, 2, 1, 4, 2, 0, 0, 0, 1, 0, 0, 2, 0, 0, 0, 2,
 /// Leaves 0 2 4 6; node 4 joins the first two, node 5 its second output and the third leaf.
 const HIDDEN: &[u8] = &[4, 1, 1, 0, 1, 2, 1, 4, 1, 6, 2, 0, 0, 0, 1, 0, 0, 2, 4, 1, 1, 2, 0, 0];
 
+/// Leaves 0 2 4 6 8; node 6 joins the first three, node 7 its second output and on with the fourth, node 8 all of it with the
+/// fifth. Output 2 of each, the last node first.
+const SHARED: &[u8] = &[
+    5, 1, 1, 0, 1, 2, 1, 4, 1, 6, 1, 8, 2, 0, 0, 0, 1, 0, 0, 2, 5, 0, 0, 2, 0, 0, //
+    2, 6, 1, 0, 3, 0, 0, 2, 6, 0, 2, 4, 0, 0, 3, 8, 2, 3, 3, 7, 2, 3,
+];
+
 /// 268,435,455, the largest number.
 const LARGEST: &[u8] = &[0xff, 0xff, 0xff, 0x7f];
 
@@ -231,6 +238,8 @@ pub fn list() -> Vec<Expected> {
     add(14, 5, 49, &[PAIR, &[4]]);
     add(0, 5, 50, &[PAIR, &[4]]);
     add(0, 3, 0, &[&PAIR[..13]]);
+    add(0, 11, 604, &[SHARED]);
+    add(14, 11, 603, &[SHARED]);
     add(0, 6, 270, &[LARGE]);
     add(14, 6, 269, &[LARGE]);
     add(0, 4, 72, &[STEPS]);
