@@ -1,7 +1,8 @@
 #!/usr/bin/env python3
 # A SAT solver on the clauses that the driver writes: solve.py DRIVER SOLVER
-# Counters over 2 to 6 leaves, and joins of windows. For every truth of the leaves, given as unit clauses: the clauses can be
-# met, and they cannot be with any output of the last join other than the count says. So each output is forced, and rightly.
+# Counters over 2 to 6 leaves, joins of windows, and counters under several joins. For every truth of the leaves, given as unit
+# clauses: the clauses can be met, and they cannot be with any output of a join other than the count says, the last join or, of
+# those that share a counter, each. So each output is forced, and rightly.
 import itertools, os, subprocess, sys
 
 driver, solver = sys.argv[1:]
@@ -74,9 +75,11 @@ def is_right(script, node, clauses, direction="both"):
     return True
 
 
-def hold(name, script, node, direction="both"):
-    script.request_all(node, direction)
-    if not is_right(script, node, script.clauses(), direction):
+def hold(name, script, *nodes, direction="both"):
+    for node in nodes:
+        script.request_all(node, direction)
+    clauses = script.clauses()
+    if not all(is_right(script, node, clauses, direction) for node in nodes):
         sys.exit(f"driver: {name}: the clauses do not count, as {os.path.basename(solver)} says:\n" + "\n".join(script.lines))
 
 
@@ -106,7 +109,7 @@ for shape in (balanced, chain):
         hold(f"{shape.__name__} counter of {n}", script, shape(script, range(n)))
     for direction in ("if", "only-if"):
         script = Script(LEAVES[:4])
-        hold(f"{shape.__name__} counter of 4, {direction}", script, shape(script, range(4)), direction)
+        hold(f"{shape.__name__} counter of 4, {direction}", script, shape(script, range(4)), direction=direction)
 
 # joins of windows over a counter of 3 and one of 3 or 2, and a window over a join of windows; limit 3 hides nothing
 WINDOWS = [(1, 0), (2, 0), (0, 1), (0, 2), (1, 1), (0, 3)]
@@ -122,6 +125,25 @@ script = Script(LEAVES)
 a, b = balanced(script, [0, 1, 2]), balanced(script, [3, 4])
 c = script.join((a, 1, 0), (b, 0, 1))
 hold("a window over windows", script, script.join((c, 0, 2), plain(5)))
+
+# a counter of 3 under two joins, by two windows, by one with its limit set and not, or whole; and a join over one of the two
+for left, right in [*zip(WINDOWS, WINDOWS[1:] + WINDOWS[:1]), ((1, 0), (1, 2)), ((0, 0), (0, 3))]:
+    script = Script(LEAVES[:5])
+    leg = chain(script, [0, 1, 2])
+    team, club = script.join((leg, *left), plain(3)), script.join(plain(4), (leg, *right))
+    hold(f"one counter by {left} and by {right}", script, team, club)
+script = Script(LEAVES)
+leg = balanced(script, [0, 1, 2])
+team, club = script.join(plain(leg), plain(3)), script.join((leg, 1, 0), plain(4))
+hold("one counter below one join and below another", script, team, script.join(plain(club), plain(5)), club)
+script = Script(LEAVES[:4])
+pairs = [script.join(plain(0), plain(leaf)) for leaf in (1, 2, 3)]
+hold("one leaf under three joins", script, *pairs)
+for direction in ("if", "only-if"):
+    script = Script(LEAVES[:4])
+    left, right = script.join(plain(0), plain(1)), script.join(plain(2), plain(3))
+    both = [script.join((left, 0, limit), plain(right)) for limit in (0, 1)]
+    hold(f"two joins over the same two, {direction}", script, *both, direction=direction)
 
 # the check notices: with any one clause left out, an output is not forced
 for shape in (balanced, chain):

@@ -1,7 +1,8 @@
 #!/usr/bin/env python3
 # Pairs of random scripts with the same leaves, joins and set of requests: orders.py SHEET DRIVER
-# The requests come in another order, between other joins, repeated, both as two; sides that show a whole node have its
-# length for a limit here and none there; a close ends one, both or neither. The two sheets are equal byte by byte. For a part of the pairs the logs and the clauses for a solver are looked at too: the logs
+# The requests come in another order, between other joins, repeated, both as two; sides that show a node to its end have a
+# limit here and none there; a close ends one, both or neither. Nodes stand under one join each, or under several. The two
+# sheets are equal byte by byte. For a part of the pairs the logs and the clauses for a solver are looked at too: the logs
 # differ in order, or the test would show little, and the clauses are the sheet's lines. SEED=N repeats a run, COUNT=N is
 # another number of pairs.
 import os, random, subprocess, sys, time
@@ -16,6 +17,13 @@ LOOKED_AT = 10  # every tenth pair
 LEAF, JOIN, REQUEST, CLOSE = 1, 2, 3, 4
 
 
+class Node:
+    def __init__(self, made, length, below):
+        self.made = made  # how many commands make it
+        self.length = length
+        self.below = below  # the leaves below it, a bit for each
+
+
 def side(node, length, windows):
     """Node, offset and limit, and the length they show; `windows` is the share of windows."""
     if length > 1 and random.random() < windows:
@@ -26,39 +34,58 @@ def side(node, length, windows):
 
 
 def written(command, nodes):
-    """A command in other words: the length of a node for no limit, or no limit for the length."""
+    """A command in other words: a limit that leaves out nothing for no limit, or none for such a limit."""
     if command[0] != JOIN:
         return command
     sides = [command[1:4], command[4:]]
     for side in sides:
-        whole = nodes[side[0]][1]
-        if side[1] == 0 and side[2] in (0, whole):
-            side[2] = random.choice([0, 0, whole])
+        rest = nodes[side[0]].length - side[1]
+        if side[2] in (0, rest):
+            side[2] = random.choice([0, 0, rest])
     return [JOIN] + sides[0] + sides[1]
 
 
+def apart(nodes, taken):
+    """Two nodes with no leaf below both, half of the time one under a join; nothing where the first has no other."""
+    first = random.choice(taken) if taken and random.random() < 0.5 else random.randrange(len(nodes))
+    others = [n for n, node in enumerate(nodes) if not node.below & nodes[first].below]
+    return others and random.sample([first, random.choice(others)], 2)
+
+
 def counters():
-    """A head, leaf and join commands, and the nodes: how many commands make each, and its length."""
+    """A head, leaf and join commands, the nodes, and whether any of them stands under several joins."""
     most = random.choice([4, 6, 8, 10, 12]) if random.random() < 0.97 else random.randint(32, 44)
     windows = random.choice([0, 0.3, 0.6])
     variables = random.choice([most, most + 40, 5000, 1048600, 100000000])
     unused = random.sample(range(variables), most)
-    literals, commands, nodes, free = [], [], [], []
+    literals, commands, nodes, free, taken = [], [], [], [], []
+
+    def join(pair):
+        left, right = (side(node, nodes[node].length, windows) for node in pair)
+        commands.append([JOIN] + left[0] + right[0])
+        below = nodes[pair[0]].below | nodes[pair[1]].below
+        nodes.append(Node(len(commands), left[1] + right[1], below))
+        taken.extend(pair)
+
+    shared = random.random() < 0.6
     while unused or len(free) > 1:
+        if shared and len(free) > 2 and random.random() < 0.1:
+            break
         if len(free) < 2 or (unused and random.random() < 0.6):
             if literals and random.random() < 0.05:
                 commands.append([LEAF, random.choice(literals)])  # its old node
                 continue
-            literals.append(2 * unused.pop() + random.randrange(2))
-            commands.append([LEAF, literals[-1]])
-            length = 1
+            commands.append([LEAF, 2 * unused.pop() + random.randrange(2)])
+            nodes.append(Node(len(commands), 1, 1 << len(literals)))
+            literals.append(commands[-1][1])
         else:
-            left, right = (side(*free.pop(random.randrange(len(free))), windows) for _ in range(2))
-            commands.append([JOIN] + left[0] + right[0])
-            length = left[1] + right[1]
-        free.append((len(nodes), length))
-        nodes.append((len(commands), length))
-    return [variables, random.choice([1, 100, 16000, 2097000, 100000000])], commands, nodes
+            join([free.pop(random.randrange(len(free))) for _ in range(2)])
+        free.append(len(nodes) - 1)
+    for _ in range(random.randint(1, most) if shared else 0):
+        pair = apart(nodes, taken)
+        if pair:
+            join(pair)
+    return [variables, random.choice([1, 100, 16000, 2097000, 100000000])], commands, nodes, len(set(taken)) < len(taken)
 
 
 def requests(nodes):
@@ -66,7 +93,7 @@ def requests(nodes):
     wanted = {}
     for _ in range(random.randint(2, 12 if len(nodes) < 30 else 80)):  # the many may not fit in the log
         node = max(random.randrange(len(nodes)) for _ in range(random.randint(1, 3)))
-        wanted.setdefault((node, random.randint(1, nodes[node][1])), set()).update(random.choice([{1}, {2}, {1, 2}]))
+        wanted.setdefault((node, random.randint(1, nodes[node].length)), set()).update(random.choice([{1}, {2}, {1, 2}]))
     return wanted
 
 
@@ -79,7 +106,7 @@ def script(head, commands, nodes, wanted):
     late = random.random() < 0.3  # all after the last join
     placed = [[] for _ in range(len(commands) + 1)]
     for request in named:
-        placed[len(commands) if late else random.randint(nodes[request[1]][0], len(commands))].append(request)
+        placed[len(commands) if late else random.randint(nodes[request[1]].made, len(commands))].append(request)
     played = placed[0] + [c for command, after in zip(commands, placed[1:]) for c in [written(command, nodes), *after]]
     return b"".join(map(coded, sum(played, head))) + (bytes([CLOSE]) if random.random() < 0.5 else b"")
 
@@ -92,9 +119,9 @@ def stop(why, *scripts):
     sys.exit(f"orders: seed {seed}: {why}\n" + "\n".join(script.hex() for script in scripts))
 
 
-lines = full = looked_at = other_logs = 0
+lines = full = several = looked_at = other_logs = 0
 for place in range(count):
-    head, commands, nodes = counters()
+    head, commands, nodes, shared = counters()
     wanted = requests(nodes)
     pair = [script(head, commands, nodes, wanted) for _ in range(2)]
     sheets = [run(script, sheet) for script in pair]
@@ -106,6 +133,7 @@ for place in range(count):
         continue
     if sheets[0] != sheets[1]:
         stop("the sheets of two orders differ", *pair)
+    several += shared
     lines += sheets[0].count(b"\n") - 1
     if place % LOOKED_AT:
         continue
@@ -121,4 +149,4 @@ for place in range(count):
 if looked_at > 99 and not looked_at // 2 < other_logs:  # by chance few of few may differ
     stop(f"of {looked_at} pairs only {other_logs} have their clauses in another order in the log")
 print(f"sheet: {count - full} pairs of scripts in two orders, seed {seed}: sheets equal byte by byte, {lines} lines;", end=" ")
-print(f"left out for want of room: {full}; of {looked_at} looked at, {other_logs} have logs in other orders")
+print(f"{several} with nodes under several joins; left out for want of room: {full}; of {looked_at} looked at, {other_logs} have logs in other orders")

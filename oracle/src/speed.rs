@@ -14,7 +14,7 @@ const MOST_BYTES: usize = WHOLE_LOG as usize;
 
 /// A side that hides nothing.
 fn plain(node: u32, _: u32) -> Side {
-    Side { node, offset: 0, limit: 0 }
+    Side::plain(node)
 }
 
 /// What is left of a node of so many outputs: left sides lose the first and the last one, right sides by turns the
@@ -63,6 +63,20 @@ fn balanced(mut script: Vec<u8>, count: u32, side: fn(u32, u32) -> Side, values:
     script
 }
 
+/// Four balanced counters of eight leaves, the joins made level by level. Each two of them are joined, with all outputs but the
+/// first of either, so that each counter stands under three joins by one window, and every output of these six is requested.
+fn shared() -> Vec<u8> {
+    let mut script = leaves(32);
+    let joined = |left: Side, right: Side| Command::Join(left, right);
+    (0..28).for_each(|i| joined(Side::plain(2 * i), Side::plain(2 * i + 1)).put(&mut script));
+    let side = |node, limit| Side { node, offset: 1, limit };
+    let counters = 56..60;
+    let pairs = counters.clone().flat_map(|left| (left + 1..counters.end).map(move |right| (left, right)));
+    pairs.for_each(|(left, right)| joined(side(left, 0), side(right, 7)).put(&mut script));
+    (60..66).for_each(|node| (1..=14).for_each(|value| request(node, value).put(&mut script)));
+    script
+}
+
 /// A script, and then a command as often as it fits.
 fn repeated(mut script: Vec<u8>, command: Command) -> Vec<u8> {
     let mut bytes = vec![];
@@ -83,6 +97,7 @@ pub fn script(name: &str) -> Option<Vec<u8>> {
         // value 15 finds 76 bytes left and is refused by 14
         "large-38" => balanced(leaves_below(MOST_HEAD, MOST_HEAD, 38), 38, plain, 14),
         "windows" => balanced(leaves(64), 64, window, 19),
+        "shared" => shared(),
         // a leaf that is there: newest and oldest, since a search may begin at either end
         "leaf-newest" => repeated(leaves(64), Command::Leaf(126)),
         "leaf-oldest" => repeated(leaves(64), Command::Leaf(0)),
