@@ -2,16 +2,18 @@
 use mathlib.Core.Path.{◌≡◌, refl, sym, ◌∙◌, ap, subst}
 use mathlib.Core.Bool.{true, false}
 use mathlib.Core.List.{List, [], ◌∷◌, ◌++◌}
-use Prim.Native.Nat.{ℕ, ◌+◌, ◌≤◌, ◌<◌}
+use Prim.Native.Nat.{ℕ, ◌+◌, ◌-◌, ◌≤◌, ◌<◌}
 use native.Mathlib.Omega.{arith}
 use lib.ListN.{length, length-append}
 use Rattle.std.specs.Prelude.{Result, Ok}
 use Rattle.pb.specs.Sum.{variable}
 use Rattle.sizes.specs.Sizes.{most_leaves, most_variable}
-use Rattle.totdb.specs.Nodes.{Node, leaf, joined, node_at, leaves, len, known, leaf_count, plain_form, side_len, side_leaves}
+use Rattle.totdb.specs.Nodes.{Node, leaf, joined, node_at, leaves, len, known, leaf_count, join_count, plain_form, side_len, side_leaves}
 use Rattle.totdb.specs.declared.Side.{Side}
 use Rattle.totdb.proofs.Leaves.{leaf_count-leaf, leaf_count-join}
 use Rattle.cert.specs.State.{State, Head}
+use Rattle.cert.proofs.Apart.{sized_ok}
+use Rattle.cert.proofs.Few.{nodes_are}
 use Rattle.cert.proofs.Tables.{at_last, length_snoc}
 use Rattle.rows.specs.Rows.{Table}
 use Rattle.define.specs.Represents.{memory}
@@ -22,7 +24,7 @@ use Rattle.player.specs.declared.Command.{Command}
 use Rattle.player.specs.declared.Refusal.{Refusal}
 use Rattle.player.proofs.Formed.{formed_act, head_low}
 use Rattle.player.proofs.Sound.{JoinFits, join_fits, side_leaves-length, plain_side_len}
-use Rattle.player.proofs.Tree.{few_nodes_lem, few_variables, treed_act}
+use Rattle.player.proofs.Limits.{few_variables, limits_act}
 use Rattle.player.proofs.Plays.{play_goes}
 use Rattle.commands.specs.Standing.{Standing, Room, Played, went}
 use Rattle.commands.specs.declared.Totals.{Totals}
@@ -44,7 +46,7 @@ module _ {h : Head} {c : ℕ} {ns store log : List ℕ} {z : Totals} {s : State}
       formed = subst (λ (u : State). Formed h u) is (formed_act h k s asked st.formed);
       table = table;
       exact =
-          exact_make s.nodes a st.table.bounded table.bounded i (omega (arith, room.store_row, st.nodes)) st.formed.held st.exact;
+          exact_make s.nodes a st.table.bounded i (omega (arith, room.store_row, st.nodes)) st.formed.held st.exact;
       step = st.step;
       clauses = st.clauses;
       nodes = omega (arith, st.nodes, length_snoc s.nodes a);
@@ -76,7 +78,7 @@ module _ {h : Head} {c : ℕ} {ns store log : List ℕ} {z : Totals} {s : State}
     next = sym st.nodes;
     leaves = sym st.leaves;
     few = few;
-    room = omega (arith, st.nodes, few_nodes_lem st.formed.treed);
+    room = omega (arith, st.nodes, st.leaves, few, nodes_are s.nodes, st.formed.limits.few_joins);
     low = omega (arith, low, (head_low h st.formed.head).0);
   }
 
@@ -88,6 +90,10 @@ module _ {h : Head} {c : ℕ} {ns store log : List ℕ} {z : Totals} {s : State}
       (omega (arith, st.leaves, leaf_count-leaf s.nodes l)) (omega (arith, st.variable))
 
   -- ---- a join
+
+  -- The joins made.
+  pub joins_made : (z.leaves ≤ z.nodes) × (join_count s.nodes ≡ z.nodes - z.leaves)
+  joins_made = (omega (arith, nodes_are s.nodes, st.nodes, st.leaves), omega (arith, nodes_are s.nodes, st.nodes, st.leaves))
 
   pub join_made : (l r : Side) → first_no (questions h s.nodes (Command.Join l r)) ≡ 0 → Room ns store z.nodes
       → (ns' : List ℕ) → Table ns' (s.nodes ++ (joined s.nodes z.variable l r ∷ [])) → (v : ℕ) → v ≡ z.variable + len (joined s.nodes z.variable l r)
@@ -103,7 +109,7 @@ module _ {h : Head} {c : ℕ} {ns store log : List ℕ} {z : Totals} {s : State}
   -- Two sides that pass their questions may be joined, and their join has 64 outputs at most.
   module _ (l r : Side) (asked : first_no (questions h s.nodes (Command.Join l r)) ≡ 0) where
     fit : JoinFits s.nodes (plain_form s.nodes l) (plain_form s.nodes r)
-    fit = join_fits h s.nodes l r asked
+    fit = join_fits h s.nodes (sized_ok s.nodes st.table.bounded.sized) l r asked
 
     long : (o : ℕ) → len (joined s.nodes o l r) ≡ side_len s.nodes l + side_len s.nodes r
     unfolding len leaves joined
@@ -113,11 +119,11 @@ module _ {h : Head} {c : ℕ} {ns store log : List ℕ} {z : Totals} {s : State}
 
     short : side_len s.nodes l + side_len s.nodes r ≤ 64
     short =
-        let t = treed_act h (Command.Join l r) s asked st.formed.sound st.formed.treed in
+        let t = limits_act h (Command.Join l r) s asked st.formed.sound st.formed.limits in
         let x : Node = joined s.nodes s.next_variable l r in
         let e : (act (Command.Join l r) s).nodes ≡ s.nodes ++ (joined s.nodes s.next_variable l r ∷ []) = unfold act make in refl in
         let k : len (node_at (s.nodes ++ (x ∷ [])) (length s.nodes)) ≤ 64 =
-        subst (λ (y : List Node). (n : ℕ) → n < length y → len (node_at y n) ≤ 64) e t.each (length s.nodes) (omega (arith, length_snoc s.nodes x)) in
+        subst (λ (y : List Node). (n : ℕ) → n < length y → len (node_at y n) ≤ 64) e t.short (length s.nodes) (omega (arith, length_snoc s.nodes x)) in
         let j : len x ≤ 64 = subst (λ (y : Node). len y ≤ 64) (at_last s.nodes x) k in
         omega (arith, long s.next_variable)
 
@@ -125,18 +131,16 @@ module _ {h : Head} {c : ℕ} {ns store log : List ℕ} {z : Totals} {s : State}
     joined_short o = omega (arith, short, long o)
 
     pub low_variable : z.variable ≤ most_variable
-    low_variable = omega (arith, st.variable, few_variables st.formed.treed, (head_low h st.formed.head).0)
+    low_variable = omega (arith, st.variable, few_variables st.formed.limits, (head_low h st.formed.head).0)
 
     pub joinable : Joinable ns s.nodes z.nodes z.variable l r
     joinable = record {
       table = st.table;
       next = sym st.nodes;
-      room = omega (arith, st.nodes, few_nodes_lem st.formed.treed);
+      room = omega (arith, st.nodes, nodes_are s.nodes, st.formed.limits.few_leaves, fit.few);
       left = fit.left;
       right = fit.right;
       apart = fit.apart;
-      left_free = fit.left_free;
-      right_free = fit.right_free;
       left_some = fit.left_some;
       right_some = fit.right_some;
       left_in = rw (plain_side_len s.nodes l) at fit.left_in;

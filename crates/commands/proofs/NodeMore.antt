@@ -13,44 +13,42 @@ use Rattle.totdb.specs.declared.Side.{Side}
 use Rattle.cert.specs.Definitions.{Key, real, window_zero, window, Direction, if, only_if}
 use Rattle.cert.specs.Requests.{request, Right}
 use Rattle.cert.specs.State.{Stored, State, keys, from_in}
-use Rattle.cert.proofs.Rules.{at_more, side_len-more}
+use Rattle.cert.proofs.Rules.{at_more}
 use Rattle.cert.proofs.Tables.{length_snoc, old_or_new}
-use Rattle.rows.specs.Windows.{SideAt, window_at}
+use Rattle.rows.specs.Windows.{SideAt, Showing, window_at}
 use Rattle.rows.specs.Rows.{Bounded}
-use Rattle.rows.proofs.Sides.{side_inside}
+use Rattle.rows.proofs.Sides.{side_inside, shows_more, window_more}
 use Rattle.rows.proofs.Growing.{SidesOf, side_more, side_cases}
 use Rattle.define.specs.Store.{WindowOf, Used, slot, held_of, IsJoin}
 use Rattle.define.specs.Represents.{Memory, Exact}
 use Rattle.define.proofs.Entries.{from_missing}
-use Rattle.define.proofs.Slots.{window_slot, slot_inside}
+use Rattle.define.proofs.Slots.{first_shown, slot_inside}
 use Rattle.request.proofs.Flags.{flag_out}
 use Rattle.player.specs.Formed.{Held}
 use Rattle.player.specs.Player.{make}
 
-module _ (t : List Node) (a : Node) (b : Bounded t) (b' : Bounded (t ++ (a ∷ []))) where
+module _ (t : List Node) (a : Node) (b : Bounded t) where
   -- ---- keys that had a place
 
-  window_more : {n f m : ℕ} → WindowOf t n f m → WindowOf (t ++ (a ∷ [])) n f m
-  window_more w = record {
-    row = w.row;
-    slot = w.slot;
-    side = w.side;
-    of = side_more t a w.of;
-    node = w.node;
-    offset = w.offset;
-    outputs = sym (side_len-more t (a ∷ []) w.side (side_inside b w.of).0) ∙ w.outputs;
-    long = w.long;
+  shown_more : {n f m p : ℕ} → Showing t n f m p → Showing (t ++ (a ∷ [])) n f m p
+  shown_more {n} {f} {m} s = record {
+    row = s.row;
+    side = s.side;
+    of = side_more t a s.of;
+    is = sym (shows_more t (a ∷ []) n f m s.side (side_inside b s.of).0) ∙ s.is;
   }
+
+  window_used : {n f m : ℕ} → WindowOf t n f m → WindowOf (t ++ (a ∷ [])) n f m
+  window_used w = record { slot = w.slot; shown = shown_more w.shown; long = w.long }
 
   used_more : (k : Key) → Used t k → Used (t ++ (a ∷ [])) k
   unfolding Used
   used_more (real n v) u = (omega (arith, length_snoc t a, u.0), rw (← at_more t (a ∷ []) n u.0) u.1, rw (← at_more t (a ∷ []) n u.0) u.2)
-  used_more (window_zero n f m) u = window_more u
-  used_more (window n f m) u = window_more u
+  used_more (window_zero n f m) u = window_used u
+  used_more (window n f m) u = window_used u
 
-  window_same : {n f m : ℕ} (w : WindowOf t n f m) → window_at t n f m ≡ window_at (t ++ (a ∷ [])) n f m
-  unfolding window_more
-  window_same w = window_slot b w ∙ sym (window_slot b' (window_more w))
+  window_same : {n f m : ℕ} → WindowOf t n f m → window_at t n f m ≡ window_at (t ++ (a ∷ [])) n f m
+  window_same w = sym (window_more b (a ∷ []) w.shown)
 
   slot_same : (k : Key) → Used t k → slot t k ≡ slot (t ++ (a ∷ [])) k
   unfolding Used slot
@@ -80,18 +78,15 @@ module _ (t : List Node) (a : Node) (b : Bounded t) (b' : Bounded (t ++ (a ∷ [
       new (leaf l) = tt
       new (join m o l r) = (inr (omega arith), inr (omega arith))
 
-  window_split : {n f m : ℕ} (w : WindowOf (t ++ (a ∷ [])) n f m) → WindowOf t n f m ⊎ (store_at (length t) ≤ w.slot)
-  window_split w =
+  -- The first side that shows a window is one of the table, or one of the new node.
+  window_split : {n f m : ℕ} → WindowOf (t ++ (a ∷ [])) n f m → WindowOf t n f m ⊎ (store_at (length t) ≤ window_at (t ++ (a ∷ [])) n f m)
+  window_split {n} {f} {m} w =
+      let s = first_shown w in
       ⊎_elim (λ o. inl (record {
-        row = w.row;
-        slot = w.slot;
-        side = w.side;
-        of = o;
-        node = w.node;
-        offset = w.offset;
-        outputs = side_len-more t (a ∷ []) w.side (side_inside b o).0 ∙ w.outputs;
+        slot = window_at (t ++ (a ∷ [])) n f m;
+        shown = record { row = s.row; side = s.side; of = o; is = shows_more t (a ∷ []) n f m s.side (side_inside b o).0 ∙ s.is };
         long = w.long;
-      })) (λ h. inr h) (side_split w.of)
+      })) (λ h. inr h) (side_split s.of)
 
   used_split : (k : Key) → Used (t ++ (a ∷ [])) k → Used t k ⊎ New k
   unfolding Used slot
@@ -99,9 +94,9 @@ module _ (t : List Node) (a : Node) (b : Bounded t) (b' : Bounded (t ++ (a ∷ [
       ⊎_elim (λ i. inl (i.0, rw (at_more t (a ∷ []) n i.0) u.1, rw (at_more t (a ∷ []) n i.0) u.2))
       (λ i. inr (new_key (real n v) (omega (arith, i.0)))) (old_or_new t a n (node_at (t ++ (a ∷ [])) n) u.0 refl)
   used_split (window_zero n f m) u =
-      ⊎_elim (λ w. inl w) (λ h. inr (new_key (window_zero n f m) (omega (arith, window_slot b' u)))) (window_split u)
+      ⊎_elim (λ w. inl w) (λ h. inr (new_key (window_zero n f m) h)) (window_split u)
   used_split (window n f m) u =
-      ⊎_elim (λ w. inl w) (λ h. inr (new_key (window n f m) (omega (arith, window_slot b' u)))) (window_split u)
+      ⊎_elim (λ w. inl w) (λ h. inr (new_key (window n f m) (omega arith))) (window_split u)
 
   -- ---- the memory
 

@@ -5,10 +5,10 @@ use mathlib.Core.List.{List}
 use Prim.Native.Nat.{ℕ, ◌≤◌, ◌<◌}
 use native.Mathlib.Decide.{dec_le}
 use native.Mathlib.Omega.{arith}
-use borrow.Author.Tests.{lt-ltb, le-ltb, le-leb, lt-leb, eq-eqb, ne_eqb}
+use borrow.Author.Tests.{lt-ltb, le-ltb, le-leb, lt-leb}
 use lib.ListN.{length}
 use Rattle.pb.specs.Sum.{variable, neg}
-use Rattle.totdb.specs.Nodes.{Node, node_at, len, known, taken}
+use Rattle.totdb.specs.Nodes.{Node, node_at, len, known}
 use Rattle.totdb.specs.declared.Side.{Side}
 use Rattle.cert.specs.State.{Head}
 use Rattle.player.specs.Player.{first_no, fits_over, questions, side_fits}
@@ -40,38 +40,19 @@ module _ (h : Head) (t : List Node) (l r : Side) where
     unfolding questions first_no
     join_right p = rw (lt-ltb l.node (length t) left, le-ltb r.node (length t) p)
 
-    module _ (right : r.node < length t) where
-      pub join_same : l.node ≡ r.node → first_no (questions h t (Command.Join l r)) ≡ 9
-      unfolding questions first_no
-      join_same p = rw (lt-ltb l.node (length t) left, lt-ltb r.node (length t) right, eq-eqb l.node r.node p)
+module _ (h : Head) (t : List Node) (l r : Side) (free : Free t l r) where
+  pub join_left_out : side_fits t l ≡ false → first_no (questions h t (Command.Join l r)) ≡ 10
+  unfolding first_no
+  join_left_out p = asked_ten h t l r free ∙ rw p
 
-      module _ (apart : ¬ (l.node ≡ r.node)) where
-        pub join_left_taken : taken t l.node ≡ true → first_no (questions h t (Command.Join l r)) ≡ 9
-        unfolding questions first_no
-        join_left_taken p = rw (lt-ltb l.node (length t) left, lt-ltb r.node (length t) right, ne_eqb l.node r.node apart, p)
+  module _ (left_in : side_fits t l ≡ true) where
+    pub join_right_out : side_fits t r ≡ false → first_no (questions h t (Command.Join l r)) ≡ 10
+    unfolding first_no
+    join_right_out p = asked_ten h t l r free ∙ rw (left_in, p)
 
-        module _ (left_free : taken t l.node ≡ false) where
-          pub join_right_taken : taken t r.node ≡ true → first_no (questions h t (Command.Join l r)) ≡ 9
-          unfolding questions first_no
-          join_right_taken p =
-              rw (lt-ltb l.node (length t) left, lt-ltb r.node (length t) right, ne_eqb l.node r.node apart, left_free, p)
-
-          module _ (right_free : taken t r.node ≡ false) where
-            free : Free t l r
-            free = record { left = left; right = right; apart = apart; left_free = left_free; right_free = right_free }
-
-            pub join_left_out : side_fits t l ≡ false → first_no (questions h t (Command.Join l r)) ≡ 10
-            unfolding first_no
-            join_left_out p = asked_ten h t l r free ∙ rw p
-
-            module _ (left_in : side_fits t l ≡ true) where
-              pub join_right_out : side_fits t r ≡ false → first_no (questions h t (Command.Join l r)) ≡ 10
-              unfolding first_no
-              join_right_out p = asked_ten h t l r free ∙ rw (left_in, p)
-
-              pub join_fits_both : side_fits t r ≡ true → first_no (questions h t (Command.Join l r)) ≡ 0
-              unfolding first_no
-              join_fits_both p = asked_ten h t l r free ∙ rw (left_in, p)
+    pub join_fits_both : side_fits t r ≡ true → first_no (questions h t (Command.Join l r)) ≡ 0
+    unfolding first_no
+    join_fits_both p = asked_ten h t l r free ∙ rw (left_in, p)
 
 module _ (h : Head) (t : List Node) (n v d : ℕ) where
   pub request_8 : length t ≤ n → first_no (questions h t (Command.Request n v d)) ≡ 8

@@ -1,8 +1,8 @@
-// The commands over the tables: questions 6 to 12 and 14, and what a command does that passes them.
+// The commands over the tables: questions 6 to 12, 14 and 15, and what a command does that passes them.
 #![tactic(auto)]
 
 ghost use Rattle.std.specs.Prelude.{◌≡◌, List, ℕ, ◌<◌, length};
-ghost use Rattle.totdb.specs.Nodes.{Node};
+ghost use Rattle.totdb.specs.Nodes.{Node, join_count};
 ghost use Rattle.cert.specs.State.{State, Head};
 ghost use Rattle.rows.specs.Rows.{Table};
 ghost use Rattle.define.specs.Represents.{memory};
@@ -61,16 +61,20 @@ fn fits(s: Side, node_len: usize) -> bool
     s.offset < node_len && s.limit <= node_len - s.offset
 }
 
-// Questions 8, 9 and 10.
-fn ask_join(nodes: &[u32], count: usize, l: Side, r: Side) -> Result<(), Refusal>
-    requires { (t : List Node) × Table nodes.now t × (length t ≡ count) }
-    ensures { (h : Head) (t : List Node) → Table nodes.now t → length t ≡ count → refused_by result ≡ first_no (questions h t (Command.Join l r)) }
+// Questions 8, 9, 15 and 10, over so many nodes, of which so many are joins.
+fn ask_join(nodes: &[u32], count: usize, joins: usize, l: Side, r: Side) -> Result<(), Refusal>
+    requires { (t : List Node) × Table nodes.now t × (length t ≡ count) × (join_count t ≡ joins) }
+    ensures { (h : Head) (t : List Node) → Table nodes.now t → length t ≡ count → join_count t ≡ joins
+        → refused_by result ≡ first_no (questions h t (Command.Join l r)) }
 {
     if count <= l.node || count <= r.node {
         return Err(Refusal::NoNode);
     }
-    if l.node == r.node || nodes::taken(nodes, l.node) || nodes::taken(nodes, r.node) {
-        return Err(Refusal::NodeInUse);
+    if nodes::share_leaf(nodes, l.node, r.node) {
+        return Err(Refusal::SharedLeaf);
+    }
+    if sizes::MOST_JOINS <= joins {
+        return Err(Refusal::TooManyJoins);
     }
     if !fits(l, nodes::len(nodes, l.node)) || !fits(r, nodes::len(nodes, r.node)) {
         return Err(Refusal::Window);
@@ -78,13 +82,13 @@ fn ask_join(nodes: &[u32], count: usize, l: Side, r: Side) -> Result<(), Refusal
     Ok(())
 }
 
-// Questions 8 to 10, then a new join.
+// Questions 8, 9, 15 and 10, then a new join.
 fn join(nodes: &mut [u32], t: Totals, l: Side, r: Side) -> Result<Totals, Refusal>
     requires { (store log : List ℕ) × Ready nodes.old store log t }
     ensures { (h : Head) (c : ℕ) (store log : List ℕ) (s : State) → Standing h c nodes.old (memory store log t.at) t s
         → Room nodes.old store t.nodes → Played h c (Command.Join l r) s t nodes.new store log result }
 {
-    ask_join(nodes, t.nodes, l, r)?;
+    ask_join(nodes, t.nodes, t.nodes - t.leaves, l, r)?;
     let len = nodes::add_join(nodes, t.nodes, t.variable, l, r);
     Ok(Totals {
         nodes: t.nodes + 1,
