@@ -1,7 +1,8 @@
 #!/usr/bin/env python3
 # Scripts whose sheets have much to sort: worst_sheets.py FOLDER writes each there as bytes, under its name.
-# A log of 65,536 bytes has room for some 2,150 clauses: more were not found. A request turns to what it needs below first, so
-# the log of one counter goes up from level to level; going down, it can only do so within a level, or over several counters.
+# A log of 65,536 bytes has room for some 2,150 clauses of counters whose nodes stand under one join each, and for some 2,540 where
+# they stand under several: more were not found. A request turns to what it needs below first, so the log of one counter goes up
+# from level to level; going down, it can only do so within a level, or over several counters.
 import os, sys
 
 
@@ -52,7 +53,7 @@ def ascending(n):
 
 
 def most(values):
-    """The most clauses."""
+    """The most clauses where each node stands under one join."""
     script = ascending(46)
     script.request(script.balanced(range(46)), values)
     return script
@@ -78,6 +79,15 @@ def two_counters():
     return script
 
 
+def shared():
+    """The most clauses: a counter of two under many joins with a third leaf, each logged before those made before it."""
+    script = ascending(3)
+    pair = script.join(0, 1)
+    for node in reversed([script.join(pair, 2) for _ in range(253)]):
+        script.request(node, [3, 2, 1])
+    return script
+
+
 def one_output():
     """One output with the most clauses, and what it needs."""
     script = ascending(64)
@@ -100,6 +110,7 @@ SCRIPTS = {
     "most-descending": most(range(30, 11, -1)),
     "in-order": in_order(),
     "two-counters": two_counters(),
+    "shared": shared(),
     "one-output": one_output(),
     "chain": chain(),
 }

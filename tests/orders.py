@@ -149,4 +149,5 @@ for place in range(count):
 if looked_at > 99 and not looked_at // 2 < other_logs:  # by chance few of few may differ
     stop(f"of {looked_at} pairs only {other_logs} have their clauses in another order in the log")
 print(f"sheet: {count - full} pairs of scripts in two orders, seed {seed}: sheets equal byte by byte, {lines} lines;", end=" ")
-print(f"{several} with nodes under several joins; left out for want of room: {full}; of {looked_at} looked at, {other_logs} have logs in other orders")
+print(f"{several} with nodes under several joins; left out for want of room: {full};", end=" ")
+print(f"of {looked_at} looked at, {other_logs} have logs in other orders")
