@@ -46,7 +46,7 @@ module _ {h : Head} {c : ℕ} {ns store log : List ℕ} {z : Totals} {s : State}
       formed = subst (λ (u : State). Formed h u) is (formed_act h k s asked st.formed);
       table = table;
       exact =
-          exact_make s.nodes a st.table.bounded i (omega (arith, room.store_row, st.nodes)) st.formed.held st.exact;
+          exact_make s.nodes a st.table.bounded i (omega (arith, room.store_row, st.nodes, table.bounded.few, length_snoc s.nodes a)) st.formed.held st.exact;
       step = st.step;
       clauses = st.clauses;
       nodes = omega (arith, st.nodes, length_snoc s.nodes a);

@@ -1,6 +1,6 @@
 -- What the code has at hand between two commands, and the state that it represents.
-use Rattle.std.specs.Prelude.{◌≡◌, cond, List, ℕ, ◌+◌, ◌≤◌, ltb, length, take, Result, Ok, Err, MatchResult}
-use Rattle.sizes.specs.Sizes.{row_at, store_at}
+use Rattle.std.specs.Prelude.{◌≡◌, cond, List, ℕ, ◌+◌, ◌≤◌, min, ltb, length, take, Result, Ok, Err, MatchResult}
+use Rattle.sizes.specs.Sizes.{most_nodes, row_at, store_at}
 use Rattle.record.specs.Record.{bytes, clauses}
 use Rattle.totdb.specs.Nodes.{leaf_count}
 use Rattle.cert.specs.State.{State, Head}
@@ -43,12 +43,12 @@ pub data Played (h : Head) (c : ℕ) (k : Command) (s : State) (z : Totals) (ns 
       → Played h c k s z ns store log e
   stopped : (r : Refusal) → play h c k s ≡ refused (number_of r) → e ≡ Err r → Reported c log z s → Played h c k s z ns store log e
 
--- The tables have a row for one more than n nodes.
+-- The tables have a row for one more than n nodes, where there may be one more.
 pub record Room (ns store : List ℕ) (n : ℕ) : Type 0 where
-  pub row : row_at (n + 1) ≤ length ns
-  pub store_row : store_at (n + 1) ≤ length store
+  pub row : row_at (min (n + 1) most_nodes) ≤ length ns
+  pub store_row : store_at (min (n + 1) most_nodes) ≤ length store
 
--- What a command needs of the tables: they represent some state, and have room for a node.
+-- What a command needs of the tables: they represent some state, and have room for a node that it may make.
 pub record Ready (ns store log : List ℕ) (z : Totals) : Type 0 where
   pub head : Head
   pub capacity : ℕ

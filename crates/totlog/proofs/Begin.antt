@@ -49,7 +49,6 @@ table_none ns h = record {
     short = λ n h. absurd (omega arith);
     low = λ n i h. absurd (omega arith);
     sized = sized_nil;
-    once = λ p q a b s u i j e. absurd (no_side i);
   };
 }
 
@@ -58,8 +57,8 @@ table_none ns h = record {
 no_key : (k : Key) → Used [] k → ⊥
 unfolding Used
 no_key (real n v) u = omega (arith, u.0)
-no_key (window_zero n f m) u = no_side u.of
-no_key (window n f m) u = no_side u.of
+no_key (window_zero n f m) u = no_side u.shown.of
+no_key (window n f m) u = no_side u.shown.of
 
 abbrev pub begin : Head → Totals
 begin h = record { at = 0; step = h.step; clauses = 0; nodes = 0; leaves = 0; variable = h.variable }

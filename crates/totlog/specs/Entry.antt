@@ -4,7 +4,7 @@ use Rattle.record.specs.Record.{bytes, steps}
 use Rattle.answer.specs.Coded.{bytes_of, padded, word_at}
 use Rattle.answer.specs.declared.Answer.{Answer}
 use Rattle.cert.specs.State.{State, start, Head}
-use Rattle.sizes.specs.Sizes.{most_bytes, most_leaves, leaf_bytes, join_bytes}
+use Rattle.sizes.specs.Sizes.{most_bytes, most_leaves, most_nodes, leaf_bytes, join_bytes}
 use Rattle.define.specs.Represents.{memory}
 use Rattle.player.specs.Player.{Outcome, outcome, plays, played, refused_at_head}
 use Rattle.player.specs.Refusals.{number_of, number_or_none}
@@ -76,10 +76,10 @@ commands_of o = commands_from o.script.now o.from
 abbrev pub played_of : Opened → ℕ → Outcome
 played_of o c = played_from o.script.now o.from o.head c
 
--- What may be made before a command of a script of n bytes: nodes take the bytes of their commands, and there are two for each leaf at most.
+-- What may be made before a command of a script of n bytes: nodes take the bytes of their commands.
 pub record Made (n leaves joins : ℕ) : Type 0 where
   pub few_leaves : leaves ≤ most_leaves
-  pub few : leaves + joins ≤ 2 * most_leaves
+  pub few : leaves + joins ≤ most_nodes
   pub took : leaf_bytes * leaves + join_bytes * joins < n
 
 -- The tables have room for a node before every command of a script of n bytes.
@@ -99,7 +99,7 @@ pub record Finished (h : Head) (c : ℕ) (cs : Commands) (log : List ℕ) (r : P
   pub reported : Reported c log r.totals state
   pub fits : length (bytes state.log) ≤ c
   pub counted : state.next_step ≡ h.step + Rattle.record.specs.Record.steps state.log
-  pub few : length state.nodes ≤ 2 * most_leaves
+  pub few : length state.nodes ≤ most_nodes
 
 -- What questions 1, 2 and 3 come to: the script that is played, or the refusal at place 0.
 pub data Asked (script : List ℕ) (capacity : ℕ) (e : Result Opened Refusal) : Type 0 where

@@ -28,6 +28,9 @@ add_join-len-requires-clause-joinable c =
     let asked = sym (c.ask_join.ensures c.requires.2.head c.requires.2.state.nodes c.requires.2.standing.table (sym c.requires.2.standing.nodes) (joins_made c.requires.2.standing).1) ∙ ap refused_by c.in_ok-ask_join.was in
     (c.requires.2.state.nodes, joinable c.requires.2.standing c.args.l c.args.r asked)
 
+pub add_join-len-requires-clause-room : goal.add_join-len-requires-clause-room
+add_join-len-requires-clause-room c = omega (arith, (add_join-len-requires-clause-joinable c).1.room, c.requires.2.room.row)
+
 pub overflow_cast-result : goal.overflow_cast-result
 overflow_cast-result c =
     let asked = sym (c.ask_join.ensures c.requires.2.head c.requires.2.state.nodes c.requires.2.standing.table (sym c.requires.2.standing.nodes) (joins_made c.requires.2.standing).1) ∙ ap refused_by c.in_ok-ask_join.was in

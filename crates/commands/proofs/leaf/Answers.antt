@@ -44,6 +44,9 @@ add_leaf-requires-clause-leafable c =
     let below : variable c.args.literal < c.requires.2.head.variable = unfold variable in omega (arith, c.requires.3, c.if-first_variable-literal.false) in
     (c.requires.2.state.nodes, leafable c.requires.2.standing c.args.literal below (omega (arith, c.if-t-ge-MOST_LEAVES.false)))
 
+pub add_leaf-requires-clause-room : goal.add_leaf-requires-clause-room
+add_leaf-requires-clause-room c = omega (arith, (add_leaf-requires-clause-leafable c).1.room, c.requires.2.room.row)
+
 pub returns : goal.returns
 returns c =
     λ h p store log s e st room.
