@@ -113,7 +113,7 @@ module _ (t : List Node) (n f m : ℕ) where
       by (none e out) = absurd (h e)
 
   -- Where a side shows them, there is a place.
-  pub window_some : {w : ℕ} → Showing t n f m w → window_at t n f m ≢ 0
+  window_some : {w : ℕ} → Showing t n f m w → window_at t n f m ≢ 0
   unfolding shown_by
   window_some s = by first_of
     where
