@@ -47,7 +47,7 @@ pub fn known(nodes: &[u32], count: usize, literal: u32) -> bool
     lookup_leaf(nodes, count, literal).is_found()
 }
 
-// A leaf lies below both nodes.
+// A leaf lies below both nodes (question 9).
 pub fn share_leaf(nodes: &[u32], l: usize, r: usize) -> bool
     requires { (t : List Node) × Table nodes.now t × (l < length t) × (r < length t) }
     ensures { (t : List Node) → Table nodes.now t → l < length t → r < length t → result ≡ share_leaf t l r }
