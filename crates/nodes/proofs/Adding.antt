@@ -30,7 +30,7 @@ use Rattle.nodes.specs.Added.{Leafable, Joinable, Sided, window_place, shown_of,
 use Rattle.nodes.proofs.Placing.{put_below, put_before, put_here, row_kept}
 use Rattle.nodes.proofs.Leaves.{leaves_agree, leaves_more}
 use Rattle.nodes.proofs.Literals.{side_count}
-use Rattle.nodes.proofs.Windows.{place_low}
+use Rattle.nodes.proofs.Windows.{place_or, place_low}
 
 -- The two numbers of a mask.
 mask_is : (m : ℕ) → m % 2 ^ 32 + 2 ^ 32 * (m / 2 ^ 32) ≡ m
@@ -172,7 +172,7 @@ module _ {ns : List ℕ} {t : List Node} {n v : ℕ} {l r : Side} (j : Joinable 
   place_is : (s : Side) (w : ℕ) → window_at with_join s.node s.offset (side_len t s) ≡ cond (eqb (window_at t s.node s.offset (side_len t s)) 0) w (window_at t s.node s.offset (side_len t s))
       → s.node < length t → IsWindow s → window_place t s (side_len t s) w ≡ window_at with_join s.node s.offset (side_len with_join s)
   unfolding window_place
-  place_is s w e h is = rw (is, ← side_len-more t (join both v l r ∷ []) s h) (sym e)
+  place_is s w e h is = rw (is, ← side_len-more t (join both v l r ∷ []) s h) (place_or (window_at t s.node s.offset (side_len t s)) w ∙ sym e)
 
   row_join : Row new_row with_join n (join both v l r)
   unfolding len leaves output KindOf

@@ -1,7 +1,9 @@
 -- Where a window's first steps stand: the first side that shows the same is looked for.
 use Rattle.std.proofs.lemmas.List.{drop_all}
+use Rattle.std.specs.Prelude.{None, Some, is_some}
+use Rattle.std.specs.Option.{unwrap_or}
 use mathlib.Core.Path.{◌≡◌, refl, sym, ap, subst, ◌∙◌}
-use mathlib.Core.Bool.{Bool, true, false, true≢false, ◌&&◌, ◌||◌, cond}
+use mathlib.Core.Bool.{Bool, true, false, true≢false, ◌&&◌, cond}
 use mathlib.Core.Logic.{◌≢◌}
 use mathlib.Core.List.{List, [], ◌∷◌}
 use Prim.Native.Nat.{ℕ, zero, suc, ◌+◌, ◌^◌, ◌≤◌, ◌<◌}
@@ -18,7 +20,24 @@ use Rattle.rows.specs.Rows.{row_of, KindOf, Table}
 use Rattle.rows.specs.Windows.{SideAt, at_left, at_right, shows, window_from, window_at}
 use Rattle.rows.proofs.Reading.{in_row, numbers}
 use Rattle.rows.proofs.Sides.{shows_not, from_append, window_shown}
-use Rattle.nodes.specs.Added.{window_place}
+use Rattle.nodes.specs.Added.{place_or_none, window_place}
+
+-- ---- a place, or none
+
+pub place_some : (p : ℕ) → p ≢ 0 → place_or_none p ≡ Some p
+place_some p h = rw (ne_eqb p 0 h)
+
+pub some_place : (p : ℕ) → is_some (place_or_none p) ≡ true → p ≢ 0
+some_place zero e = absurd (true≢false (sym e))
+some_place (suc p) e = λ z. omega (arith, z)
+
+pub none_place : (p : ℕ) → is_some (place_or_none p) ≡ false → p ≡ 0
+none_place zero e = refl
+none_place (suc p) e = absurd (true≢false (rw (place_some (suc p) (λ z. omega (arith, z))) at e))
+
+pub place_or : (p w : ℕ) → unwrap_or (place_or_none p) w ≡ cond (eqb p 0) w p
+place_or zero w = refl
+place_or (suc p) w = rw (ne_eqb (suc p) 0 (λ z. omega (arith, z)))
 
 -- ---- the sides of one node
 
@@ -113,9 +132,9 @@ module _ (ns : List ℕ) (n : ℕ) (s : Side) (m : ℕ) where
         let k : i + 1 ≡ suc i = omega arith in
         rw k (sym (rw z at (from_next t s.node s.offset m i (omega arith))) ∙ none t tb e)
 
-    pub none_last : n ≤ i → 0 ≡ window_at t s.node s.offset m
+    pub none_last : n ≤ i → window_at t s.node s.offset m ≡ 0
     unfolding window_from
-    none_last h = rw (drop_all i t (omega arith)) at (none t tb e)
+    none_last h = sym (rw (drop_all i t (omega arith)) at (none t tb e))
 
 -- ---- a new side
 
@@ -127,7 +146,7 @@ place_low t s m w few low = by (plain_or s.offset s.limit true false) (eqb (wind
     inside (at_left i ls o l r h e) = omega arith
     inside (at_right i ls o l r h e) = omega arith
 
-    by : (p b : Bool) → eqb (window_at t s.node s.offset m) 0 ≡ b → cond (p || b) w (window_at t s.node s.offset m) < 2 ^ 32
+    by : (p b : Bool) → eqb (window_at t s.node s.offset m) 0 ≡ b → cond p w (unwrap_or (cond b None (Some (window_at t s.node s.offset m))) w) < 2 ^ 32
     by true b e = low
     by false true e = low
     by false false e = inside (window_shown t s.node s.offset m (λ z. true≢false (sym (eq-eqb (window_at t s.node s.offset m) 0 z) ∙ e))).of

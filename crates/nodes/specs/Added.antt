@@ -1,5 +1,6 @@
 -- What a node is added to, and the row of a new node.
-use Rattle.std.specs.Prelude.{◌≡◌, true, false, cond, ◌||◌, List, [], ◌∷◌, ◌++◌, ℕ, ◌+◌, ◌-◌, ◌*◌, ◌/◌, ◌%◌, ◌^◌, ◌≤◌, ◌<◌, eqb, length, replicate}
+use Rattle.std.specs.Prelude.{◌≡◌, true, false, cond, Option, None, Some, List, [], ◌∷◌, ◌++◌, ℕ, ◌+◌, ◌-◌, ◌*◌, ◌/◌, ◌%◌, ◌^◌, ◌≤◌, ◌<◌, eqb, length, replicate}
+use Rattle.std.specs.Option.{unwrap_or}
 use Rattle.sizes.specs.Sizes.{most_leaves, most_nodes, most_variable, width, left_column, list_column}
 use Rattle.totdb.specs.Nodes.{Node, node_at, len, output, plain_or, side_len, leaf_count}
 use Rattle.totdb.specs.declared.Side.{Side}
@@ -59,12 +60,15 @@ mask_numbers m = (m % 2 ^ 32) ∷ (m / 2 ^ 32) ∷ []
 abbrev pub leaf_numbers : ℕ → ℕ → List ℕ
 leaf_numbers l k = 1 ∷ l ∷ 0 ∷ (mask_numbers (2 ^ k) ++ (replicate (list_column - left_column) 0 ++ (l ∷ replicate (width - 1) 0)))
 
+-- The place of a window's first steps, where a side shows it.
+abbrev pub place_or_none : ℕ → Option ℕ
+place_or_none p = cond (eqb p 0) None (Some p)
+
 -- Where the first steps of the window of a new side with m outputs stand: with the first side of the table that shows the same, else at its own place w.
 -- A plain side has no window.
 unfoldable pub window_place : List Node → Side → ℕ → ℕ → ℕ
 unfolding plain_or window_at
-window_place t s m w =
-    cond (plain_or s.offset s.limit true false || eqb (window_at t s.node s.offset m) 0) w (window_at t s.node s.offset m)
+window_place t s m w = cond (plain_or s.offset s.limit true false) w (unwrap_or (place_or_none (window_at t s.node s.offset m)) w)
 
 -- A side of a table whose window's first steps stand at w.
 abbrev pub shown_of : List Node → Side → ℕ → Shown

@@ -12,7 +12,7 @@ ghost use Rattle.totdb.specs.Leaves.{lookup_leaf};
 ghost use Rattle.totdb.specs.declared.Side.{Side};
 ghost use Rattle.rows.specs.Rows.{Table};
 ghost use Rattle.rows.specs.Windows.{SideAt, shows, window_from, window_at};
-ghost use Rattle.nodes.specs.Added.{Leafable, Joinable, Sided, Small, window_place, shown_of, mask_numbers, leaf_numbers, side_numbers, join_numbers};
+ghost use Rattle.nodes.specs.Added.{Leafable, Joinable, Sided, Small, place_or_none, window_place, shown_of, mask_numbers, leaf_numbers, side_numbers, join_numbers};
 
 use rows::Shown;
 use totdb::{LeafLookup, Side};
@@ -116,38 +116,38 @@ fn shows(nodes: &[u32], at: usize, s: Side, len: usize) -> bool
         && rows::number_at(nodes, at + sizes::SIDE_LEN) == len
 }
 
-// The place in the store of the first steps of a window that a side of node i shows: 0 where none does.
-fn window_of(nodes: &[u32], i: usize, s: Side, len: usize) -> usize
+// The place in the store of the first steps of a window that a side of node i shows.
+fn window_of(nodes: &[u32], i: usize, s: Side, len: usize) -> Option<usize>
     requires { (t : List Node) × Table nodes.now t × (i < length t) }
     ensures { (t : List Node) → Table nodes.now t → i < length t
-        → result ≡ window_from t s.node s.offset len (node_at t i ∷ []) i }
+        → result ≡ place_or_none (window_from t s.node s.offset len (node_at t i ∷ []) i) }
 {
     let row = rows::row_at(i);
     let base = sizes::STORE_START + sizes::STORE_ROW * i;
     if nodes[row + sizes::KIND] == 0 {
-        return 0;
+        return None;
     }
     if shows(nodes, row + sizes::LEFT, s, len) {
-        return base + sizes::LEFT_WINDOW;
+        return Some(base + sizes::LEFT_WINDOW);
     }
     if shows(nodes, row + sizes::RIGHT, s, len) {
-        return base + sizes::RIGHT_WINDOW;
+        return Some(base + sizes::RIGHT_WINDOW);
     }
-    0
+    None
 }
 
 // The same, of the first side that shows it among the n nodes. Only joins after the node itself have it under a side.
-fn find_window(nodes: &[u32], n: usize, s: Side, len: usize) -> usize
+fn find_window(nodes: &[u32], n: usize, s: Side, len: usize) -> Option<usize>
     requires { (t : List Node) × Table nodes.now t × (length t ≡ n) × (s.node < n) }
-    ensures { (t : List Node) → Table nodes.now t → length t ≡ n → result ≡ window_at t s.node s.offset len }
+    ensures { (t : List Node) → Table nodes.now t → length t ≡ n → result ≡ place_or_none (window_at t s.node s.offset len) }
 {
     for i in s.node + 1..n {
         let at = window_of(nodes, i, s, len);
-        if at != 0 {
+        if at.is_some() {
             return at;
         }
     }
-    0
+    None
 }
 
 // Where the first steps of a side's window stand: at `own`, unless a side of the n nodes shows the same.
@@ -158,8 +158,7 @@ fn window_place(nodes: &[u32], n: usize, s: Side, len: usize, own: usize) -> usi
     if s.is_plain() {
         return own;
     }
-    let at = find_window(nodes, n, s, len);
-    if at == 0 { own } else { at }
+    find_window(nodes, n, s, len).unwrap_or(own)
 }
 
 // A side of node n, as its row has it, with `own` as its own place for the first steps of its window.
