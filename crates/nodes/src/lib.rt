@@ -77,8 +77,8 @@ fn put_below(r: &mut [u32], below: u64)
     requires { list_column ≤ length r.old }
     ensures { r.new ≡ sets r.old below_column (mask_numbers below) }
 {
-    r[sizes::BELOW] = (below % 4294967296) as u32;
-    r[sizes::BELOW + 1] = (below / 4294967296) as u32;
+    r[sizes::BELOW] = (below & 0xffff_ffff) as u32;
+    r[sizes::BELOW + 1] = (below >> 32) as u32;
 }
 
 // The row of a leaf, which was made after k others.

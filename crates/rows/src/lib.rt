@@ -51,7 +51,7 @@ pub fn below_at(nodes: &[u32], node: usize) -> u64
     ensures { (t : List Node) → Table nodes.now t → node < length t → result ≡ mask (leaves_below t node) }
 {
     let at = row_at(node) + sizes::BELOW;
-    nodes[at] as u64 + 4294967296 * nodes[at + 1] as u64
+    nodes[at] as u64 | (nodes[at + 1] as u64) << 32
 }
 
 // The side whose five numbers stand at `at`.
