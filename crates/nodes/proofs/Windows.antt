@@ -1,7 +1,13 @@
 -- Where a window's first steps stand: the first side that shows the same is looked for.
 use Rattle.std.proofs.lemmas.List.{drop_all}
-use Rattle.std.specs.Prelude.{None, Some, is_some}
+use Rattle.std.specs.Prelude.{Option, None, Some, is_some, MatchOption}
 use Rattle.std.specs.Option.{unwrap_or}
+use Rattle.std.specs.Bool.{IsTrue}
+use Rattle.std.specs.Iterator.Runs.{Run, SomeRun, ItemsCountUp, CallKeepsClosure, AllItemsGive, IsFirstToGive}
+use Rattle.std.proofs.iter.Yields.{nat_range_steps}
+use Rattle.std.proofs.iter.runs.Sources.{range_runs}
+use Rattle.std.proofs.lemmas.Iterator.Adapters.{option_map_id}
+use denote.Param.Members.{Mut, Called}
 use mathlib.Core.Path.{◌≡◌, refl, sym, ap, subst, ◌∙◌}
 use mathlib.Core.Bool.{Bool, true, false, true≢false, ◌&&◌, cond}
 use mathlib.Core.Logic.{◌≢◌}
@@ -112,29 +118,44 @@ module _ (t : List Node) (n f m : ℕ) where
   from_after sized (suc i) low h =
       sym (rw (window_low sized i (omega arith) (omega arith)) at (from_next i (omega arith))) ∙ from_after sized i (omega arith) (omega arith)
 
--- No side of the nodes before i shows the window.
-abbrev pub NoneBefore : List ℕ → ℕ → Side → ℕ → ℕ → Type 0
-NoneBefore ns n s m i = (t : List Node) → Table ns t → length t ≡ n → window_from t s.node s.offset m (drop i t) i ≡ window_at t s.node s.offset m
+  -- No side of the nodes before i shows these outputs.
+  abbrev NoneBefore : ℕ → Type 0
+  NoneBefore i = window_from t n f m (drop i t) i ≡ window_at t n f m
 
-module _ (ns : List ℕ) (n : ℕ) (s : Side) (m : ℕ) where
-  pub none_first : s.node < n → NoneBefore ns n s m (s.node + 1)
-  none_first h t tb e = from_after t s.node s.offset m tb.bounded.sized (s.node + 1) (omega arith) (omega arith)
+  none_before : Sized t → (k : ℕ) → suc n + k ≤ length t → ((j : ℕ) → j < k → window_from t n f m (node_at t (suc n + j) ∷ []) (suc n + j) ≡ 0)
+      → NoneBefore (suc n + k)
+  none_before sized zero h none = from_after sized (suc n + 0) (omega arith) h
+  none_before sized (suc k) h none =
+      let next : suc n + suc k ≡ suc (suc n + k) = omega arith in
+      rw next (sym (rw (none k (omega arith)) at (from_next (suc n + k) (omega arith))) ∙ none_before sized k (omega arith) (λ j l. none j (omega arith)))
 
-  module _ (i : ℕ) (none : NoneBefore ns n s m i) (t : List Node) (tb : Table ns t) (e : length t ≡ n) where
-    pub found_here : i < n → window_from t s.node s.offset m (node_at t i ∷ []) i ≢ 0
-        → window_from t s.node s.offset m (node_at t i ∷ []) i ≡ window_at t s.node s.offset m
-    found_here h some =
-        sym (from_next t s.node s.offset m i (omega arith) ∙ rw (ne_eqb (window_from t s.node s.offset m (node_at t i ∷ []) i) 0 some)) ∙ none t tb e
+  -- What `find_map` gives over the nodes after n, where its closure looks among the sides of a node.
+  module _ {F : Type 0} {g : Mut F (ℕ × Unit {0}) (Option ℕ)} {c : F} (keeps : CallKeepsClosure g c)
+      (looks : (i : ℕ) (r : Option ℕ) → Called g c (i, tt) r c → i < length t → r ≡ place_or_none (window_from t n f m (node_at t i ∷ []) i)) where
+    module _ (p : Run nat_range_steps) (from : p.from ≡ record { start = n + 1; end = length t }) where
+      counted : ItemsCountUp p (n + 1) (length t)
+      counted = rw from at (range_runs p p.seen)
 
-    pub none_next : i < n → window_from t s.node s.offset m (node_at t i ∷ []) i ≡ 0
-        → window_from t s.node s.offset m (drop (i + 1) t) (i + 1) ≡ window_at t s.node s.offset m
-    none_next h z =
-        let k : i + 1 ≡ suc i = omega arith in
-        rw k (sym (rw z at (from_next t s.node s.offset m i (omega arith))) ∙ none t tb e)
+      at_is : (k : ℕ) → k < p.len → p.at k ≡ Some (suc n + k)
+      at_is k h = sym (option_map_id (p.at k)) ∙ counted.3 k h ∙ ap Some (omega arith)
 
-    pub none_last : n ≤ i → window_at t s.node s.offset m ≡ 0
+      none_at : (k : ℕ) → k < p.len → Called g c (suc n + k, tt) None c → window_from t n f m (node_at t (suc n + k) ∷ []) (suc n + k) ≡ 0
+      none_at k h called = none_place _ (ap is_some (sym (looks (suc n + k) None called (omega (arith, counted.0)))))
+
+    pub found : Sized t → n < length t → (r : Option ℕ)
+        → SomeRun nat_range_steps (record { start = n + 1; end = length t }) (λ p. MatchOption r (IsTrue p.whole × AllItemsGive p g c None)
+        (λ y. (i : ℕ) × (i < p.len) × (p.len ≡ i + 1) × IsFirstToGive p g c (Some y) None i))
+        → r ≡ place_or_none (window_at t n f m)
     unfolding window_from
-    none_last h = sym (rw (drop_all i t (omega arith)) at (none t tb e))
+    found sized h None (p, from, all) =
+        let long = (counted p from).1 all.0 in
+        let none = none_before sized p.len (omega (arith, long)) (λ k l. none_at p from k l (rw (at_is p from k l) at (all.1 keeps k))) in
+        rw (sym (rw (drop_all (suc n + p.len) t (omega (arith, long))) at none))
+    found sized h (Some y) (p, from, (i, here, last, first)) =
+        let inside : suc n + i < length t = omega (arith, here, (counted p from).0) in
+        let none = none_before sized i (omega arith) (λ k l. none_at p from k (omega (arith, here)) (rw (at_is p from k (omega (arith, here))) at ((first keeps).1 k l))) in
+        let is = looks (suc n + i) (Some y) (rw (at_is p from i here) at (first keeps).0) inside in
+        is ∙ ap place_or_none (sym (from_next (suc n + i) inside ∙ rw (ne_eqb _ 0 (some_place _ (ap is_some (sym is))))) ∙ none)
 
 -- ---- a new side
 

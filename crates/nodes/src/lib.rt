@@ -141,13 +141,7 @@ fn find_window(nodes: &[u32], n: usize, s: Side, len: usize) -> Option<usize>
     requires { (t : List Node) × Table nodes.now t × (length t ≡ n) × (s.node < n) }
     ensures { (t : List Node) → Table nodes.now t → length t ≡ n → result ≡ place_or_none (window_at t s.node s.offset len) }
 {
-    for i in s.node + 1..n {
-        let at = window_of(nodes, i, s, len);
-        if at.is_some() {
-            return at;
-        }
-    }
-    None
+    (s.node + 1..n).find_map(|i| window_of(nodes, i, s, len))
 }
 
 // Where the first steps of a side's window stand: at `own`, unless a side of the n nodes shows the same.
