@@ -131,10 +131,11 @@ module _ (t : List Node) (n f m : ℕ) where
 
   -- What `find_map` gives over the nodes after n, where its closure looks among the sides of a node.
   module _ {F : Type 0} {g : Mut F (ℕ × Unit {0}) (Option ℕ)} {c : F} (keeps : CallKeepsClosure g c)
-      (looks : (i : ℕ) (r : Option ℕ) → Called g c (i, tt) r c → i < length t → r ≡ place_or_none (window_from t n f m (node_at t i ∷ []) i)) where
-    module _ (p : Run nat_range_steps) (from : p.from ≡ record { start = n + 1; end = length t }) where
+      (looks : (i : ℕ) (r : Option ℕ) → Called g c (i, tt) r c → i < length t → r ≡ place_or_none (window_from t n f m (node_at t i ∷ []) i))
+      {a b : ℕ} (after : a ≡ n + 1) (all : b ≡ length t) where
+    module _ (p : Run nat_range_steps) (from : p.from ≡ record { start = a; end = b }) where
       counted : ItemsCountUp p (n + 1) (length t)
-      counted = rw from at (range_runs p p.seen)
+      counted = rw (from, after, all) at (range_runs p p.seen)
 
       at_is : (k : ℕ) → k < p.len → p.at k ≡ Some (suc n + k)
       at_is k h = sym (option_map_id (p.at k)) ∙ counted.3 k h ∙ ap Some (omega arith)
@@ -143,13 +144,13 @@ module _ (t : List Node) (n f m : ℕ) where
       none_at k h called = none_place _ (ap is_some (sym (looks (suc n + k) None called (omega (arith, counted.0)))))
 
     pub found : Sized t → n < length t → (r : Option ℕ)
-        → SomeRun nat_range_steps (record { start = n + 1; end = length t }) (λ p. MatchOption r (IsTrue p.whole × AllItemsGive p g c None)
+        → SomeRun nat_range_steps (record { start = a; end = b }) (λ p. MatchOption r (IsTrue p.whole × AllItemsGive p g c None)
         (λ y. (i : ℕ) × (i < p.len) × (p.len ≡ i + 1) × IsFirstToGive p g c (Some y) None i))
         → r ≡ place_or_none (window_at t n f m)
     unfolding window_from
-    found sized h None (p, from, all) =
-        let long = (counted p from).1 all.0 in
-        let none = none_before sized p.len (omega (arith, long)) (λ k l. none_at p from k l (rw (at_is p from k l) at (all.1 keeps k))) in
+    found sized h None (p, from, (whole, none)) =
+        let long = (counted p from).1 whole in
+        let none = none_before sized p.len (omega (arith, long)) (λ k l. none_at p from k l (rw (at_is p from k l) at (none keeps k))) in
         rw (sym (rw (drop_all (suc n + p.len) t (omega (arith, long))) at none))
     found sized h (Some y) (p, from, (i, here, last, first)) =
         let inside : suc n + i < length t = omega (arith, here, (counted p from).0) in
