@@ -1,11 +1,12 @@
 -- Rows written, and what a write leaves of the others.
 use mathlib.Core.Path.{◌≡◌, sym, ap, ◌∙◌}
-use mathlib.Core.List.{List, ◌++◌, append_assoc}
-use Prim.Native.Nat.{ℕ, ◌+◌, ◌≤◌, ◌<◌}
+use mathlib.Core.List.{List, [], ◌∷◌, ◌++◌, append_assoc}
+use Prim.Native.Nat.{ℕ, ◌+◌, ◌/◌, ◌%◌, ◌^◌, ◌≤◌, ◌<◌}
 use native.Mathlib.Omega.{arith}
-use lib.ListN.{length, get_or, set, take, drop}
-use lib.Seq.{paste, take_at, drop_at, take_all, get_or-take, length-take-le, drop-set-lt}
-use Rattle.sizes.specs.Sizes.{nodes_start, row, row_at}
+use lib.ListN.{length, get_or, set, take, drop, replicate}
+use lib.Seq.{paste, sets, take_at, drop_at, take_all, get_or-take, length-take-le, drop-set-lt}
+use Rattle.sizes.specs.Sizes.{nodes_start, row, row_at, length_column, first_column, below_column, list_column}
+use Rattle.nodes.specs.Added.{mask_numbers, leaf_numbers}
 use Rattle.rows.specs.Rows.{row_of}
 use Rattle.rows.proofs.Reading.{part_take}
 
@@ -42,3 +43,14 @@ module _ (ns : List ℕ) (n : ℕ) (r : List ℕ) (inside : row_at n + row ≤ l
 
 pub row_kept : (ns : List ℕ) (k l i : ℕ) → k < nodes_start → row_of (set ns k l) i ≡ row_of ns i
 row_kept ns k l i h = ap (take row) (drop-set-lt (row_at i) ns k l (omega arith))
+
+-- ---- the leaves below
+
+-- The two numbers of a mask.
+pub two_numbers : (r : List ℕ) (m : ℕ) {a b : ℕ} → a ≡ m % 2 ^ 32 → b ≡ m / 2 ^ 32 → sets r below_column (a ∷ b ∷ []) ≡ sets r below_column (mask_numbers m)
+two_numbers r m p q = rw (p, q)
+
+-- The row of a leaf, by its mask.
+pub leaf_made : (l k : ℕ) {m : ℕ} {r : List ℕ} → m ≡ 2 ^ k
+    → r ≡ sets (set (set (replicate row 0) length_column 1) first_column l) below_column (mask_numbers m) → set r list_column l ≡ leaf_numbers l k
+leaf_made l k p e = rw (e, p)
