@@ -33,11 +33,11 @@ use Rattle.nodes.specs.Added.{place_or_none, window_place}
 pub place_some : (p : ℕ) → p ≢ 0 → place_or_none p ≡ Some p
 place_some p h = rw (ne_eqb p 0 h)
 
-pub some_place : (p : ℕ) → is_some (place_or_none p) ≡ true → p ≢ 0
+some_place : (p : ℕ) → is_some (place_or_none p) ≡ true → p ≢ 0
 some_place zero e = absurd (true≢false (sym e))
 some_place (suc p) e = λ z. omega (arith, z)
 
-pub none_place : (p : ℕ) → is_some (place_or_none p) ≡ false → p ≡ 0
+none_place : (p : ℕ) → is_some (place_or_none p) ≡ false → p ≡ 0
 none_place zero e = refl
 none_place (suc p) e = absurd (true≢false (rw (place_some (suc p) (λ z. omega (arith, z))) at e))
 
@@ -112,18 +112,15 @@ module _ (t : List Node) (n f m : ℕ) where
       by (leaf l) k = refl
       by (join ls o l r) k = rw (shows_not t n f m l (λ e. omega (arith, k.0)), shows_not t n f m r (λ e. omega (arith, k.1)))
 
-  pub from_after : Sized t → (i : ℕ) → i ≤ suc n → i ≤ length t → window_from t n f m (drop i t) i ≡ window_at t n f m
+  from_after : Sized t → (i : ℕ) → i ≤ suc n → i ≤ length t → window_from t n f m (drop i t) i ≡ window_at t n f m
   unfolding window_at
   from_after sized zero low h = refl
   from_after sized (suc i) low h =
       sym (rw (window_low sized i (omega arith) (omega arith)) at (from_next i (omega arith))) ∙ from_after sized i (omega arith) (omega arith)
 
-  -- No side of the nodes before i shows these outputs.
-  abbrev NoneBefore : ℕ → Type 0
-  NoneBefore i = window_from t n f m (drop i t) i ≡ window_at t n f m
-
+  -- No side of the nodes before suc n + k shows these outputs.
   none_before : Sized t → (k : ℕ) → suc n + k ≤ length t → ((j : ℕ) → j < k → window_from t n f m (node_at t (suc n + j) ∷ []) (suc n + j) ≡ 0)
-      → NoneBefore (suc n + k)
+      → window_from t n f m (drop (suc n + k) t) (suc n + k) ≡ window_at t n f m
   none_before sized zero h none = from_after sized (suc n + 0) (omega arith) h
   none_before sized (suc k) h none =
       let next : suc n + suc k ≡ suc (suc n + k) = omega arith in
