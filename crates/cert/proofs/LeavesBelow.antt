@@ -10,7 +10,7 @@ use lib.ListN.{length, get_or, take, length-append, get_or-append}
 use lib.Seq.{get_or-append_seam}
 use Rattle.totdb.specs.Nodes.{Node, leaf, join, node_at, leaf_count}
 use Rattle.totdb.specs.Below.{below_from, leaves_below, share_leaf}
-use Rattle.totdb.proofs.Meet.{meet_has}
+use Rattle.totdb.proofs.Overlap.{overlap_has}
 use Rattle.totdb.specs.declared.Side.{Side}
 use Rattle.cert.specs.Sized.{Separate}
 use Rattle.cert.proofs.Rules.{Ok, Below}
@@ -170,8 +170,8 @@ below_is_leaf t ok =
 
 module _ (t : List Node) (n m : ℕ) where
   share_has : (x : ℕ) → Memᴰ x (leaves_below t n) → Memᴰ x (leaves_below t m) → share_leaf t n m ≡ true
-  unfolding share_leaf leaves_below
-  share_has x i j = meet_has (leaves_below t n) (leaves_below t m) x i j
+  unfolding share_leaf
+  share_has x i j = overlap_has (leaves_below t n) (leaves_below t m) x i j
 
   pub share_no : share_leaf t n m ≡ false → Separate t n m
   share_no e x i j = true≢false (sym (share_has x i j) ∙ e)

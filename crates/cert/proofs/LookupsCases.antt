@@ -46,7 +46,7 @@ unfolding
     simplify C1 C2 complement opposite literal_at keys_of used_by used_at lookup_keys side_keys
 worked = (refl, refl)
 
--- a table and a request that meet the hypotheses of `lookups_are`
+-- a table and a request that overlap the hypotheses of `lookups_are`
 table_sized : Sized table
 unfolding Sized Fit table node_at leaves len limited side_len side_leaves side_outputs outputs output range plain_or share_leaf
 table_sized zero h = tt

@@ -5,7 +5,7 @@ use Rattle.totdb.specs.Below.{leaves_below}
 use Rattle.totdb.specs.Nodes.{Node, leaf, join, node_at, len, side_len, side_leaves}
 use Rattle.totdb.specs.declared.Side.{Side}
 
--- No leaf lies below both nodes.
+-- No leaf lies below both nodes, by the numbers of leaves.
 abbrev pub Separate : List Node → ℕ → ℕ → Type 0
 Separate t n m = (x : ℕ) → Memᴰ x (leaves_below t n) → Memᴰ x (leaves_below t m) → ⊥
 

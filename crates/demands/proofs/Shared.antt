@@ -26,7 +26,7 @@ use Rattle.cert.proofs.Rules.{Ok}
 use Rattle.player.specs.Formed.{Formed}
 use Rattle.player.specs.Passes.{AllPassed}
 use Rattle.player.specs.Player.{make, act}
-use Rattle.player.specs.Verdict.{Below, joins, OffNode, No, no_8_join, no_9, no_15, no_10, no_14, Reached}
+use Rattle.player.specs.Verdict.{Below, joins, OffNode, No, no_8_join, no_9, no_15, no_10, no_14, Reached, one_more}
 use Rattle.player.specs.declared.Command.{Command}
 use Rattle.player.proofs.Below.{common_leaf, of_number}
 use Rattle.player.proofs.Decoded.{all_fit}
@@ -45,19 +45,22 @@ use Rattle.demands.proofs.Needed.{reached_formed}
 
 -- ---- windows
 
-not_plain : (f k : ℕ) → (0 < f) ⊎ (0 < k) → plain_or f k true false ≡ false
+not_plain : (f k n : ℕ) → (0 < f) ⊎ ((0 < k) × (k < n)) → plain_or f k true false ≡ false
 unfolding plain_or
-not_plain zero zero h = absurd (⊎_elim (λ l. omega arith) (λ l. omega arith) h)
-not_plain zero (suc k) h = refl
-not_plain (suc f) k h = refl
+not_plain zero zero n h = absurd (⊎_elim (λ l. omega arith) (λ l. omega (arith, l.0)) h)
+not_plain zero (suc k) n h = refl
+not_plain (suc f) k n h = refl
 
 module _ (t : List Node) where
+  hidden : (a : Side) → Window t a → plain_or a.offset a.limit true false ≡ false
+  hidden a w = not_plain a.offset a.limit (len (node_at t a.node)) w.hides
+
   -- All that is looked up of a window is of its node, offset and number of outputs.
   window_keys : (a : Side) → Window t a → (i : ℕ) (d : Direction) (k : Key) → Memᴰ k (key_of (side_def t a i d))
       → k ≡ window a.node a.offset (side_len t a)
   window_keys a w i d k m =
       Memᴰ.eq_of_singleton
-      (rw (window_side t a i d w.several (not_plain a.offset a.limit w.hides), window_key a.node a.offset (side_len t a) (keyed a i) d) at m)
+      (rw (window_side t a i d w.several (hidden a w), window_key a.node a.offset (side_len t a) (keyed a i) d) at m)
 
   outputs_first : (a : Side) → Window t a → (l : ℕ) × (side_outputs t a ≡ output (node_at t a.node) (a.offset + 1) ∷ map (output (node_at t a.node)) (range (a.offset + 2) l))
   unfolding side_outputs outputs range
@@ -149,13 +152,12 @@ module _ {bs : List ℕ} {capacity : ℕ} {h : Head} {cs : List Command} {s : St
   joins_pass l r i j none few a b n (no_10 p) = ⊎_elim a b p
   joins_pass l r i j none few a b n (no_14 p) = omega (arith, p, written)
 
-  shared_in : SharedIn h capacity s s.nodes
+  shared_in : SharedIn s.nodes
   shared_in = record {
-    joins_pass = λ l r i j none few. joins_pass l r i j none (omega (arith, few));
     own = own_window formed;
     one = λ a b w v e i d.
         let q = same_outputs formed a b w v e in
-        same_window s.nodes a b (not_plain a.offset a.limit w.hides) (not_plain b.offset b.limit v.hides) q.0 q.1 q.2 i d;
+        same_window s.nodes a b (hidden s.nodes a w) (hidden s.nodes b v) q.0 q.1 q.2 i d;
     few_joins = omega (arith, joins_counted s.nodes, formed.limits.few_joins);
     few_nodes = omega (arith, few_nodes_lem formed.limits);
     no_longer = λ n xs l all. omega (arith, no_longer formed n xs l all);
@@ -174,6 +176,8 @@ led_once {capacity} {s} (on h cs f c a) = clauses_once h capacity cs s a
 pub shared_nodes : SharedNodes
 unfolding Demand1
 shared_nodes = record {
+  joined = λ bs capacity h cs s here rest l r p unclosed k i j none few a b.
+      one_more p unclosed k (λ n. joins_pass p l r i j none (omega (arith, few)) a b n);
   nodes = λ bs capacity h cs s rest r. shared_in r;
   once = λ bs capacity rs w k.
       let m = demand_1 bs capacity w in

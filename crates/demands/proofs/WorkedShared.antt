@@ -1,11 +1,11 @@
--- Two scripts in which a node stands under two joins, through windows: they meet the hypotheses of the demands and of document 02, §5.
+-- Two scripts in which a node stands under three joins, through windows: they meet the hypotheses of the demands and of document 02, §5.
 use mathlib.Core.Path.{◌≡◌, refl}
-use mathlib.Core.Logic.{◌≢◌, inl, inr}
+use mathlib.Core.Logic.{◌≢◌, inl, inr, ⊎_elim}
 use mathlib.Core.List.{List, [], ◌∷◌, ◌++◌, flat_map, head-eq_of_cons-eq, Memᴰ, Nodup}
 use Prim.Native.Nat.{ℕ, ◌≤◌, ◌<◌}
 use native.Mathlib.Omega.{arith}
-use lib.ListN.{length}
-use Rattle.number.specs.Number.{Bytes}
+use lib.ListN.{length, drop}
+use Rattle.number.specs.Number.{Bytes, read_in, above}
 use Rattle.memo.specs.Closure.{SameMembers}
 use Rattle.memo.proofs.Lists.{of_three}
 use Rattle.pb.specs.Sum.{variable}
@@ -15,18 +15,20 @@ use Rattle.totdb.specs.Below.{share_leaf}
 use Rattle.totdb.specs.declared.Side.{Side}
 use Rattle.cert.specs.Definitions.{Direction, if, only_if, Key, side_def}
 use Rattle.cert.specs.Requests.{Request, request, key_of}
-use Rattle.cert.specs.State.{Head, State}
+use Rattle.cert.specs.State.{Head, State, start}
 use Rattle.cert.proofs.LeavesBelow.{leaf_join, share_no}
 use Rattle.player.specs.Called.{makes, table}
-use Rattle.player.specs.Player.{played}
+use Rattle.player.specs.Player.{act, play, played}
 use Rattle.player.specs.Script.{command_numbers, script_bytes}
-use Rattle.player.specs.Verdict.{Below, itself, through_left, through_right, own_join, joins, offset_high, limit_high, No, Reached}
+use Rattle.player.specs.Verdict.{Below, itself, through_left, through_right, Reads, own_join, joins, offset_high, limit_high, Reached, at_head, one_more}
 use Rattle.player.specs.declared.Command.{Command}
 use Rattle.player.proofs.Accepted.{are_short, script_tested, accepted_reached}
 use Rattle.player.proofs.Below.{common_number}
 use Rattle.player.proofs.Coding.{are_bytes, bytes_tested}
+use Rattle.player.proofs.Fronts.{cons_reads, nil_reads}
 use Rattle.player.proofs.Judged.{reached_all, reached_ok}
 use Rattle.player.proofs.Matching.{nodes_table}
+use Rattle.player.proofs.Questions.{accepted_exactly}
 use Rattle.player.proofs.Runs.{asked, asked_from, asked_has}
 use Rattle.demands.specs.Demands.{Alike, Meets3, Demand3}
 use Rattle.demands.specs.Shared.{NoneBelow, Window, SharedIn}
@@ -121,7 +123,7 @@ reached = accepted_reached first_bytes alike.one_head.0 alike.accepted_both.0
 nodes_are : reached.0.nodes ≡ table head first_commands
 nodes_are = nodes_table head 500 first_commands reached.0 (reached_all reached.1).3
 
-shared : SharedIn head 500 reached.0 (table head first_commands)
+shared : SharedIn (table head first_commands)
 shared =
     rw nodes_are at (shared_nodes.nodes first 500 head first_commands reached.0 [] reached.1)
 
@@ -153,7 +155,7 @@ unfolding head first_commands table side
 shows_9 = record {
   there = omega arith;
   inside = λ o. elim o [ offset_high l ↦ omega arith | limit_high l ↦ omega arith ];
-  hides = inr (omega arith);
+  hides = inr (omega arith, omega arith);
   several = omega arith;
 }
 
@@ -177,12 +179,6 @@ none_below x a b =
     let c = common_number (table head first_commands) (rw nodes_are at (reached_ok reached.1)) 7 4 (x, a, b) in
     share_no (table head first_commands) 7 4 refl c.0 c.1 c.2
 
-pub passes : (n : ℕ) → No head 500 reached.0 (Command.Join (side 7 0 0) (side 4 0 0)) n → ⊥
-unfolding head first_commands table side joins own_join flat_map
-passes n =
-    shared.joins_pass (side 7 0 0) (side 4 0 0) (omega arith) (omega arith) none_below (omega arith) (λ o. elim o [ offset_high l ↦ omega arith | limit_high l ↦ omega arith ])
-    (λ o. elim o [ offset_high l ↦ omega arith | limit_high l ↦ omega arith ]) n
-
 pub no_common : (x y : ℕ) → Memᴰ x (leaves (node_at (table head first_commands) 7)) → Memᴰ y (leaves (node_at (table head first_commands) 4)) → variable x ≢ variable y
 unfolding head first_commands table
 no_common = shared.apart 7 4 (omega arith) (omega arith) none_below
@@ -199,3 +195,48 @@ no_longer = shared.no_longer 0 (0 ∷ []) there (λ x. one_below x 0 refl)
   where
     there : 0 < length (table head first_commands)
     there = unfold head first_commands table in omega arith
+
+-- ---- a script that comes past a join
+
+unfoldable pub pair : List ℕ
+pair = 2 ∷ 1 ∷ 1 ∷ 0 ∷ 1 ∷ 2 ∷ 2 ∷ 0 ∷ 0 ∷ 0 ∷ 1 ∷ 0 ∷ 0 ∷ []
+
+unfoldable pub two : Head
+two = record { variable = 2; step = 1 }
+
+at_leaves : Reached pair 0 two [] (start two) (drop 2 pair)
+unfolding pair two are_bytes read_in above
+at_leaves =
+    at_head (omega arith) (omega arith)
+    (cons_reads (bytes_tested pair refl) refl (cons_reads (bytes_tested (drop 1 pair) refl) refl (nil_reads (drop 2 pair)))) (omega arith) (omega arith) (omega arith)
+
+one_leaf : Reached pair 0 two (Command.Leaf 0 ∷ []) (act (Command.Leaf 0) (start two)) (drop 4 pair)
+unfolding pair two are_bytes read_in above command_numbers play start
+one_leaf =
+    one_more at_leaves (λ m. mathlib.Core.List.Memᴰ.not-nil m)
+    (cons_reads (bytes_tested (drop 2 pair) refl) refl (cons_reads (bytes_tested (drop 3 pair) refl) refl (nil_reads (drop 4 pair))))
+    ((accepted_exactly two 0 (start two) (reached_ok at_leaves) (Command.Leaf 0)).0 refl)
+
+two_leaves : Reached pair 0 two (Command.Leaf 0 ∷ Command.Leaf 2 ∷ []) (act (Command.Leaf 2) (act (Command.Leaf 0) (start two))) (drop 6 pair)
+unfolding pair two are_bytes read_in above command_numbers play start
+two_leaves =
+    one_more one_leaf (λ m. let z = mathlib.Core.List.Memᴰ.eq_of_singleton m in absurd (let y : ◌≡◌ {A = ℕ} 0 1 = cc in omega arith))
+    (cons_reads (bytes_tested (drop 4 pair) refl) refl (cons_reads (bytes_tested (drop 5 pair) refl) refl (nil_reads (drop 6 pair))))
+    ((accepted_exactly two 0 (act (Command.Leaf 0) (start two)) (reached_ok one_leaf) (Command.Leaf 2)).0 refl)
+
+pub past_join : Reached pair 0 two (Command.Leaf 0 ∷ Command.Leaf 2 ∷ Command.Join (side 0 0 0) (side 1 0 0) ∷ [])
+    (act (Command.Join (side 0 0 0) (side 1 0 0)) (act (Command.Leaf 2) (act (Command.Leaf 0) (start two)))) []
+unfolding pair two side are_bytes read_in above command_numbers start act joins own_join flat_map share_leaf
+past_join =
+    shared_nodes.joined pair 0 two (Command.Leaf 0 ∷ Command.Leaf 2 ∷ []) (act (Command.Leaf 2) (act (Command.Leaf 0) (start two))) (drop 6 pair) []
+    (side 0 0 0) (side 1 0 0) two_leaves
+    (λ m. ⊎_elim (λ e. absurd (let z : ◌≡◌ {A = ℕ} 0 1 = cc in omega arith)) (λ n. absurd (let e = mathlib.Core.List.Memᴰ.eq_of_singleton n in let z : ◌≡◌ {A = ℕ} 0 1 = cc in omega arith)) (mathlib.Core.List.Memᴰ.cases_cons m))
+    reads (omega arith) (omega arith)
+    (λ x a b. let c = common_number (act (Command.Leaf 2) (act (Command.Leaf 0) (start two))).nodes (reached_ok two_leaves) 0 1 (x, a, b) in share_no (act (Command.Leaf 2) (act (Command.Leaf 0) (start two))).nodes 0 1 refl c.0 c.1 c.2)
+    (omega arith) (λ o. elim o [ offset_high l ↦ omega arith | limit_high l ↦ omega arith ]) (λ o. elim o [ offset_high l ↦ omega arith | limit_high l ↦ omega arith ])
+  where
+    reads : Reads (drop 6 pair) (command_numbers (Command.Join (side 0 0 0) (side 1 0 0))) []
+    reads =
+        cons_reads (bytes_tested (drop 6 pair) refl) refl (cons_reads (bytes_tested (drop 7 pair) refl) refl (cons_reads (bytes_tested (drop 8 pair) refl) refl
+        (cons_reads (bytes_tested (drop 9 pair) refl) refl (cons_reads (bytes_tested (drop 10 pair) refl) refl
+        (cons_reads (bytes_tested (drop 11 pair) refl) refl (cons_reads (bytes_tested (drop 12 pair) refl) refl (nil_reads [])))))))

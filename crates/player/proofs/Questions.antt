@@ -17,7 +17,7 @@ use Rattle.memo.proofs.Lists.{mem_flat_map, of_flat_map}
 use Rattle.record.specs.Record.{bytes}
 use Rattle.totdb.specs.Below.{leaves_below, share_leaf}
 use Rattle.totdb.specs.Nodes.{Node, leaf, join, node_at, len, any, leaf_of, known, leaf_count, join_count}
-use Rattle.totdb.proofs.Meet.{meet_has, meet_from}
+use Rattle.totdb.proofs.Overlap.{overlap_has, overlap_from}
 use Rattle.totdb.specs.declared.Side.{Side}
 use Rattle.cert.specs.Sized.{Separate}
 use Rattle.cert.specs.State.{State, Head}
@@ -141,13 +141,13 @@ known_is t l = answer_among (leaf_of l) own_literal l each t
     each (join ls o a b) = unfold own_literal leaf_of in answer_yes Memᴰ.not-nil
 
 shared_is : (t : List Node) → Ok t → (n m : ℕ) → Answer ((x : ℕ) × Below t x n × Below t x m) (notb (share_leaf t n m))
-unfolding share_leaf leaves_below
+unfolding share_leaf
 shared_is t ok n m = by (share_leaf t n m) refl
   where
     by : (b : Bool) → share_leaf t n m ≡ b → Answer ((x : ℕ) × Below t x n × Below t x m) (notb b)
-    by true e = answer_no (common_leaf t ok n m (meet_from (leaves_below t n) (leaves_below t m) e))
+    by true e = answer_no (common_leaf t ok n m (overlap_from (leaves_below t n) (leaves_below t m) e))
     by false e =
-        answer_yes (λ p. let k = common_number t ok n m p in true≢false (sym (meet_has (leaves_below t n) (leaves_below t m) k.0 k.1 k.2) ∙ e))
+        answer_yes (λ p. let k = common_number t ok n m p in true≢false (sym (overlap_has (leaves_below t n) (leaves_below t m) k.0 k.1 k.2) ∙ e))
 
 pub joins_counted : (t : List Node) → length (joins t) ≡ join_count t
 unfolding joins own_join join_count flat_map

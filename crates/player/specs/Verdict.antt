@@ -40,7 +40,7 @@ unfoldable pub leaf_literals : List Node → List ℕ
 unfolding own_literal
 leaf_literals t = flat_map own_literal t
 
--- The leaf of number x lies below the node n: a leaf lies below itself, and below a join what lies below the node of a side of it, through windows
+-- The leaf that is node x lies below the node n: a leaf lies below itself, and below a join what lies below the node of a side of it, through windows
 -- or not (document 02, §5).
 pub data Below (t : List Node) (x : ℕ) : ℕ → Type 0 where
   itself : {l : ℕ} → x < length t → node_at t x ≡ leaf l → Below t x x

@@ -2,6 +2,6 @@
 pub mod Sides
 pub mod Listed
 pub mod Leaves
-pub mod Meet
+pub mod Overlap
 pub mod Masks
 pub mod BelowCases

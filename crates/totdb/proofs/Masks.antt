@@ -1,4 +1,4 @@
--- A mask has the bits of its list's members: it is that of two lists by `|`, and whether they meet is seen by `&`.
+-- A mask has the bits of its list's members: it is that of two lists by `|`, and whether they overlap is seen by `&`.
 use mathlib.Core.Path.{◌≡◌, refl, sym, ◌∙◌, ap}
 use mathlib.Core.Bool.{Bool, true, false, true≢false, not as notb}
 use mathlib.Core.Logic.{◌≢◌}
@@ -12,8 +12,8 @@ use Rattle.std.specs.Int.Bits.{bit_and, bit_or, or_zero_l, or_zero_r}
 use Rattle.std.specs.Int.{bit_at}
 use Rattle.std.proofs.lemmas.Nat.{or_lt, pow_below, pow_pos}
 use Rattle.std.proofs.lemmas.Nat.Bits.{bit_at_and, bit_at_or, bit_at-zero, bit_at-lt, bit_at-pow_same, bit_at-pow_other, same_from_bits}
-use Rattle.totdb.specs.Below.{meet, mask}
-use Rattle.totdb.proofs.Meet.{meet_has, meet_from}
+use Rattle.totdb.specs.Below.{overlap, mask}
+use Rattle.totdb.proofs.Overlap.{overlap_has, overlap_from}
 
 pub mask_one : (x : ℕ) → mask (x ∷ []) ≡ 2 ^ x
 unfolding mask
@@ -76,9 +76,9 @@ module _ (xs ys : List ℕ) where
       bit i (yes p) (no q) = omega (arith, bit_at_and (mask xs) (mask ys) i, bit_at-lt (mask ys) i, q, bit_at-zero i)
 
   -- What `a & b != 0` says of two masks.
-  pub meet_masks : notb (eqb both 0) ≡ meet xs ys
-  meet_masks = by (meet xs ys) refl
+  pub overlap_masks : notb (eqb both 0) ≡ overlap xs ys
+  overlap_masks = by (overlap xs ys) refl
     where
-      by : (b : Bool) → meet xs ys ≡ b → notb (eqb both 0) ≡ b
-      by true e = let m = meet_from xs ys e in rw (ne_eqb both 0 (has_common m.0 m.1 m.2))
-      by false e = rw (eq-eqb both 0 (none_common (λ x i j. true≢false (sym (meet_has xs ys x i j) ∙ e))))
+      by : (b : Bool) → overlap xs ys ≡ b → notb (eqb both 0) ≡ b
+      by true e = let m = overlap_from xs ys e in rw (ne_eqb both 0 (has_common m.0 m.1 m.2))
+      by false e = rw (eq-eqb both 0 (none_common (λ x i j. true≢false (sym (overlap_has xs ys x i j) ∙ e))))

@@ -1,4 +1,4 @@
--- Lists that meet, by their members.
+-- Lists with a number in common, by their members.
 use mathlib.Core.Path.{◌≡◌, refl, sym, ◌∙◌, ap, subst}
 use mathlib.Core.Bool.{Bool, true, false, true≢false, ◌||◌}
 use mathlib.Core.List.{List, [], ◌∷◌, Memᴰ}
@@ -6,7 +6,7 @@ use Prim.Native.Nat.{ℕ}
 use borrow.Author.Tests.{eq-eqb, eqb-true}
 use lib.Dec.{eqb}
 use Rattle.totdb.specs.Nodes.{any}
-use Rattle.totdb.specs.Below.{meet}
+use Rattle.totdb.specs.Below.{overlap}
 
 module _ {A : Type 0} (f : A → Bool) where
   any_has : (x : A) (xs : List A) → Memᴰ x xs → f x ≡ true → any f xs ≡ true
@@ -29,13 +29,13 @@ module _ {A : Type 0} (f : A → Bool) where
       by false e q ih = let r = ih q in (r.0, Memᴰ.tail r.1, r.2)
 
 module _ (xs ys : List ℕ) where
-  pub meet_has : (x : ℕ) → Memᴰ x xs → Memᴰ x ys → meet xs ys ≡ true
-  unfolding meet
-  meet_has x i j = any_has (λ (x : ℕ). any (eqb x) ys) x xs i (any_has (eqb x) x ys j (eq-eqb x x refl))
+  pub overlap_has : (x : ℕ) → Memᴰ x xs → Memᴰ x ys → overlap xs ys ≡ true
+  unfolding overlap
+  overlap_has x i j = any_has (λ (x : ℕ). any (eqb x) ys) x xs i (any_has (eqb x) x ys j (eq-eqb x x refl))
 
-  pub meet_from : meet xs ys ≡ true → (x : ℕ) × Memᴰ x xs × Memᴰ x ys
-  unfolding meet
-  meet_from e =
+  pub overlap_from : overlap xs ys ≡ true → (x : ℕ) × Memᴰ x xs × Memᴰ x ys
+  unfolding overlap
+  overlap_from e =
       let p = any_from (λ (x : ℕ). any (eqb x) ys) xs e in
       let q = any_from (eqb p.0) ys p.2 in
       (p.0, p.1, subst (λ (y : ℕ). Memᴰ y ys) (sym (eqb-true p.0 q.0 q.2)) q.1)
