@@ -45,7 +45,7 @@ module _ {h : Head} {c : ℕ} {ns store log : List ℕ} {z : Totals} {s : State}
   pub reported : Reported c log z s
   reported = kept log z.at stays
 
-  -- One of questions 6 to 12 is answered no, and nothing is changed.
+  -- One of questions 6 to 12 or 15 is answered no, and nothing is changed.
   pub refused_early : (k : Command) (r : Refusal) → number_of r ≡ first_no (questions h s.nodes k) → (e : Result Totals Refusal) → e ≡ Err r
       → Played h c k s z ns store log e
   refused_early k r q e a = stopped r (play_stops h c k s (number_of r) (number_some r) (sym q)) a reported
