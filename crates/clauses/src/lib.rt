@@ -49,7 +49,7 @@ fn real_definition(store: &[u32], node: usize, value: usize, only_if: bool) -> S
     requires { (node < most_nodes) × (store_at node + store_row ≤ length store.now) × (value ≤ width + 1) }
     ensures { result ≡ Step (real_step (get_or store.now (store_at node + value) 0) value only_if) }
 {
-    let first = store[define::store_at(node) + value];
+    let first = store[rows::store_at(node) + value];
     if value == 0 {
         return SemDefinition::Step(first);
     }
@@ -180,7 +180,7 @@ fn is_side_stored(store: &[u32], s: Shown, a: usize) -> bool
     }
     let side = s.side;
     if side.is_plain() {
-        return has_first(store, define::store_at(side.node) + side.key(a));
+        return has_first(store, rows::store_at(side.node) + side.key(a));
     }
     has_first(store, s.window + 1)
 }
@@ -207,7 +207,7 @@ fn look_up_this(
     ensures { Simulates nodes.now (λ t s. RealOf t node value) (λ t s. look_up t (real node value) s)
         (memory store.old log.old at) (memory store.new log.new result) }
 {
-    if has_first(store, define::store_at(node) + value) {
+    if has_first(store, rows::store_at(node) + value) {
         return at;
     }
     define::look_up_real(nodes, store, log, at, node, value)

@@ -22,14 +22,6 @@ ghost use Rattle.define.specs.Lookups.{NodeOf, RealOf, New, WindowIn, SideWindow
 use record::Sum;
 use rows::Shown;
 
-// The place of a node's row in the store.
-pub fn store_at(node: usize) -> usize
-    requires { node < 4294967296 }
-    ensures { result ≡ store_at node }
-{
-    sizes::STORE_START + sizes::STORE_ROW * node
-}
-
 // The records of the real definition of a value: l is the leaf list, `first` the output of value 1.
 fn put_real(l: &[u32], log: &mut [u8], at: usize, value: usize, first: u32) -> usize
     requires limits { (length l.now ≤ width) × (value ≤ width + 1) × (first ≤ 2 ^ 30) }
@@ -109,7 +101,7 @@ pub fn look_up_real(
     ensures { Simulates nodes.now (λ t s. RealOf t node value) (λ t s. look_up t (real node value) s)
         (memory store.old log.old at) (memory store.new log.new result) }
 {
-    let slot = store_at(node) + value;
+    let slot = rows::store_at(node) + value;
     if log.len() < at || store[slot] != 0 {
         return at;
     }
@@ -179,7 +171,7 @@ fn define_window(outputs: &[u32], store: &mut [u32], log: &mut [u8], at: usize, 
     }
     let side = s.side;
     let len = s.len;
-    let row = store_at(side.node);
+    let row = rows::store_at(side.node);
     let end = window::put_window(
         &store[row..row + sizes::LEFT_WINDOW],
         outputs,

@@ -48,11 +48,11 @@ pub fn known(nodes: &[u32], count: usize, literal: u32) -> bool
 }
 
 // A leaf lies below both nodes (question 9).
-pub fn share_leaf(nodes: &[u32], l: usize, r: usize) -> bool
-    requires { (t : List Node) × Table nodes.now t × (l < length t) × (r < length t) }
-    ensures { (t : List Node) → Table nodes.now t → l < length t → r < length t → result ≡ share_leaf t l r }
+pub fn share_leaf(nodes: &[u32], node: usize, other: usize) -> bool
+    requires { (t : List Node) × Table nodes.now t × (node < length t) × (other < length t) }
+    ensures { (t : List Node) → Table nodes.now t → node < length t → other < length t → result ≡ share_leaf t node other }
 {
-    rows::below_at(nodes, l) & rows::below_at(nodes, r) != 0
+    rows::below_at(nodes, node) & rows::below_at(nodes, other) != 0
 }
 
 // The length of a node.
@@ -123,7 +123,7 @@ fn window_of(nodes: &[u32], i: usize, s: Side, len: usize) -> Option<usize>
         → result ≡ place_or_none (window_from t s.node s.offset len (node_at t i ∷ []) i) }
 {
     let row = rows::row_at(i);
-    let base = sizes::STORE_START + sizes::STORE_ROW * i;
+    let base = rows::store_at(i);
     if nodes[row + sizes::KIND] == 0 {
         return None;
     }
@@ -220,15 +220,14 @@ fn join_row(nodes: &[u32], variable: u32, l: Shown, r: Shown) -> [u32; sizes::RO
     row
 }
 
-// A join of two sides as they are, as node n, its outputs on the variables from `variable` up. Its
-// length.
+// A join of two sides as they are, as node n, its outputs on the variables from `variable` up. Its length.
 fn put_join(nodes: &mut [u32], n: usize, variable: u32, l: Side, r: Side) -> usize
     requires room { row_at (n + 1) ≤ length nodes.old }
     requires joinable { (t : List Node) × Joinable nodes.old t n variable l r }
     ensures { (t : List Node) → Joinable nodes.old t n variable l r
         → (result ≡ len (join_of t variable l r)) × Table nodes.new (t ++ (join_of t variable l r ∷ [])) }
 {
-    let base = sizes::STORE_START + sizes::STORE_ROW * n;
+    let base = rows::store_at(n);
     let left = shown(nodes, n, l, base + sizes::LEFT_WINDOW);
     let right = shown(nodes, n, r, base + sizes::RIGHT_WINDOW);
     let row = join_row(nodes, variable, left, right);
@@ -244,7 +243,7 @@ fn plain_form(nodes: &[u32], s: Side) -> Side
     s.plain_form(len(nodes, s.node))
 }
 
-// The same, of the sides' plain forms.
+// The same of the plain forms of two sides.
 pub fn add_join(nodes: &mut [u32], n: usize, variable: u32, l: Side, r: Side) -> usize
     requires room { row_at (n + 1) ≤ length nodes.old }
     requires joinable { (t : List Node) × Joinable nodes.old t n variable l r }

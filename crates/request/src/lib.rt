@@ -55,7 +55,7 @@ fn held_at(node: usize, value: usize) -> usize
     requires { (node < most_nodes) × (value ≤ width) }
     ensures { result ≡ held_at node value }
 {
-    define::store_at(node) + sizes::HELD + value
+    rows::store_at(node) + sizes::HELD + value
 }
 
 // Whether a direction is among those held: 1 if, 2 only-if, 3 both. They stay a number, as the store has them, whose tables are

@@ -2,15 +2,14 @@
 #![tactic(auto)]
 
 ghost use Rattle.std.specs.Prelude.{◌≡◌, List, ◌+◌, ◌<◌, length, get_or};
-ghost use Rattle.sizes.specs.Sizes.{row_at};
+ghost use Rattle.sizes.specs.Sizes.{row_at, store_at};
 ghost use Rattle.totdb.specs.Below.{leaves_below, mask};
 ghost use Rattle.totdb.specs.Nodes.{Node};
 ghost use Rattle.rows.specs.Rows.{Table, read_shown, read_join, SidePlace, JoinPlace};
 
 use totdb::Side;
 
-// A side as the table has it: its length; its node's output of value 1; the place of its window's first steps, where it is a
-// window of two outputs or more.
+// A side as the table has it: its length; its node's output of value 1; the place of its first steps, where it is a window.
 #[derive(Clone, Copy)]
 pub struct Shown {
     pub side: Side,
@@ -36,12 +35,20 @@ pub fn number_at(nodes: &[u32], at: usize) -> usize
     nodes[at] as usize
 }
 
-// The place of a node's row.
+// The place of a node's row in the table of the nodes.
 pub fn row_at(node: usize) -> usize
     requires { node < 4294967296 }
     ensures { result ≡ row_at node }
 {
     sizes::NODES_START + sizes::ROW * node
+}
+
+// The place of a node's row in the store.
+pub fn store_at(node: usize) -> usize
+    requires { node < 4294967296 }
+    ensures { result ≡ store_at node }
+{
+    sizes::STORE_START + sizes::STORE_ROW * node
 }
 
 // The leaves below a node, a bit for each.

@@ -69,7 +69,7 @@ fn first_of(store: &[u32], s: Shown, a: usize) -> u32
     ensures { result ≡ get_or store.now (store_at s.side.node + a) 0 }
 {
     let side = s.side;
-    store[define::store_at(side.node) + a]
+    store[rows::store_at(side.node) + a]
 }
 
 fn has_first_of(store: &[u32], s: Shown, a: usize) -> bool
@@ -86,7 +86,7 @@ fn is_ready(store: &[u32], length: usize, at: usize, x: Join, k: Split, long: bo
 {
     long && has_both(x, k)
         && record::fits(length, at, derivation::CLAUSE_ROOM)
-        && clauses::has_first(store, define::store_at(x.node) + k.value)
+        && clauses::has_first(store, rows::store_at(x.node) + k.value)
         && has_first_of(store, x.left, k.left)
         && has_first_of(store, x.right, k.right)
 }
@@ -106,7 +106,7 @@ fn push_split(store: &[u32], log: &mut [u8], at: usize, x: Join, k: Split) -> us
     ensures { (ns : List ℕ) → Simulates ns (λ t s. ClauseIn t x k) (λ t s. write t (clause_of t x k) s)
         (memory store.now log.old at) (memory (clause_counted store.now) log.new result) }
 {
-    let this = store[define::store_at(x.node) + k.value];
+    let this = store[rows::store_at(x.node) + k.value];
     let left = first_of(store, x.left, k.left);
     let right = first_of(store, x.right, k.right);
     let w = Whole {

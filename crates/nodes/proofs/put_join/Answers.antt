@@ -6,15 +6,15 @@ use Rattle.nodes.proofs.put_join.Goals as goal
 pub join_row-row-requires-clause-limits : goal.join_row-row-requires-clause-limits
 join_row-row-requires-clause-limits c =
     let j = c.requires.joinable.1 in
-    let e = c.shown-left.ensures c.requires.joinable.0 j.table j.next (omega (arith, j.left, j.next)) in
-    let f = c.shown-right.ensures c.requires.joinable.0 j.table j.next (omega (arith, j.right, j.next)) in
+    let e = rw c.store_at-base.ensures at (c.shown-left.ensures c.requires.joinable.0 j.table j.next (omega (arith, j.left, j.next))) in
+    let f = rw c.store_at-base.ensures at (c.shown-right.ensures c.requires.joinable.0 j.table j.next (omega (arith, j.right, j.next))) in
     rw (e, f) (j.low, j.short, left_low j, right_low j)
 
 pub returns : goal.returns
 returns c =
     λ t j.
-    let e = c.shown-left.ensures t j.table j.next (omega (arith, j.left, j.next)) in
-    let f = c.shown-right.ensures t j.table j.next (omega (arith, j.right, j.next)) in (
+    let e = rw c.store_at-base.ensures at (c.shown-left.ensures t j.table j.next (omega (arith, j.left, j.next))) in
+    let f = rw c.store_at-base.ensures at (c.shown-right.ensures t j.table j.next (omega (arith, j.right, j.next))) in (
       rw (e, f) (length_join j),
       rw (
         c.put_row.ensures,

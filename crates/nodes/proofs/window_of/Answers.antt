@@ -18,7 +18,7 @@ pub returns-then-shows : goal.returns-then-shows
 returns-then-shows c = λ t tb h.
     let j = join_sides tb c.args.s.node c.args.s.offset c.args.len c.args.i h (rw c.row_at-row.ensures at c.if-nodes-row-eq0.false) in
     let left = sym (c.shows.ensures t tb (left_window c.args.i) j.left (rw c.row_at-row.ensures j.left_of)) ∙ c.if-shows.true in
-    rw (j.is, left) (sym (place_some (left_window c.args.i) (λ z. omega (arith, z))))
+    rw (j.is, left, c.store_at-base.ensures) (sym (place_some (left_window c.args.i) (λ z. omega (arith, z))))
 
 pub shows-requires-2 : goal.shows-requires-2
 shows-requires-2 c =
@@ -31,7 +31,7 @@ returns-then-shows-2 c = λ t tb h.
     let j = join_sides tb c.args.s.node c.args.s.offset c.args.len c.args.i h (rw c.row_at-row.ensures at c.if-nodes-row-eq0.false) in
     let left = sym (c.shows.ensures t tb (left_window c.args.i) j.left (rw c.row_at-row.ensures j.left_of)) ∙ c.if-shows.false in
     let right = sym (c.shows-2.ensures t tb (right_window c.args.i) j.right (rw c.row_at-row.ensures j.right_of)) ∙ c.if-shows-2.true in
-    rw (j.is, left, right) (sym (place_some (right_window c.args.i) (λ z. omega (arith, z))))
+    rw (j.is, left, right, c.store_at-base.ensures) (sym (place_some (right_window c.args.i) (λ z. omega (arith, z))))
 
 pub returns : goal.returns
 returns c = λ t tb h.
