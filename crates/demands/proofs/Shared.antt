@@ -177,7 +177,7 @@ pub shared_nodes : SharedNodes
 unfolding Demand1
 shared_nodes = record {
   joined = λ bs capacity h cs s here rest l r p unclosed k i j none few a b.
-      one_more p unclosed k (λ n. joins_pass p l r i j none (omega (arith, few)) a b n);
+      one_more p unclosed k (λ n. joins_pass p l r (omega (arith, i)) (omega (arith, j)) none (omega (arith, few)) a b n);
   nodes = λ bs capacity h cs s rest r. shared_in r;
   once = λ bs capacity rs w k.
       let m = demand_1 bs capacity w in
