@@ -43,7 +43,7 @@ different_once [] d = Nodup-nil
 different_once (l ∷ ls) d =
     Nodup-cons.1 (not_mem (λ m. let k = Memᴰ.of_map variable ls m in d.0 k.0 k.1 (sym k.2)), different_once ls d.1)
 
-pub different_append : (ls ms : List ℕ) → Different ls → Different ms → Disjoint ls ms → Different (ls ++ ms)
+different_append : (ls ms : List ℕ) → Different ls → Different ms → Disjoint ls ms → Different (ls ++ ms)
 unfolding Different
 different_append [] ms d e h = e
 different_append (l ∷ ls) ms d e h = (
@@ -180,7 +180,7 @@ module _ (t : List Node) (sz : Sized t) where
     pub leaves_apart : (n m : ℕ) → n < length t → m < length t → Separate t n m → Disjoint (leaves (node_at t n)) (leaves (node_at t m))
     leaves_apart n m a b s x y i j = owners_apart n m x y s (owners n a x i) (owners m b y j)
 
-    -- So do two sides.
+    -- Nor do two sides.
     pub sides_apart : (c e : Side) → c.node < length t → e.node < length t → c.offset + side_len t c ≤ len (node_at t c.node)
         → e.offset + side_len t e ≤ len (node_at t e.node) → Separate t c.node e.node → Disjoint (side_leaves t c) (side_leaves t e)
     sides_apart c e a b f g s x y i j =

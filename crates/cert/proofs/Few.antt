@@ -1,4 +1,4 @@
--- A node is as long as there are leaves below it at most; these are leaves of the table, each once.
+-- A node is no longer than there are leaves below it; these are leaves of the table, each once.
 use mathlib.Core.Path.{◌≡◌}
 use mathlib.Core.HLevel.{⊥_prop}
 use mathlib.Core.Logic.{∥∥₁_elim}
@@ -46,7 +46,7 @@ module _ (t : List Node) (sz : Sized t) where
       ((Nodup-append {l₁ = leaves_below t l.node} {l₂ = leaves_below t r.node}).1
       (left, right, λ x i j. ∥∥₁_elim i ⊥_prop (λ i. ∥∥₁_elim j ⊥_prop (λ j. unfold Fit in f.2 x i j)))))
 
-  -- So a node is as long as the table has leaves at most.
+  -- So a node is no longer than the table has leaves.
   pub len_few : (n : ℕ) → n < length t → len (node_at t n) ≤ leaf_count t
   len_few n h =
       omega (

@@ -6,7 +6,7 @@ use mathlib.Core.List.{List, [], ◌∷◌}
 use Prim.Native.Nat.{ℕ, zero, suc, ◌+◌, ◌*◌, ◌≤◌, ◌<◌}
 use native.Mathlib.Decide.{dec_le}
 use native.Mathlib.Omega.{arith}
-use Rattle.totdb.specs.Nodes.{Node, side_len, side_lit, plain_or, keyed}
+use Rattle.totdb.specs.Nodes.{IsWindow, Node, side_len, side_lit, plain_or, keyed}
 use Rattle.totdb.specs.declared.Side.{Side}
 use Rattle.totdb.proofs.Sides.{keyed_zero, keyed_above, plain_zero, window_more, plain_keyed}
 use Rattle.cert.specs.Definitions.{Direction, Definition, if, only_if, real, window, stored, one_def, real_def, window_def, long_def, side_def}
@@ -52,7 +52,7 @@ module _ (t : List Node) (s : Side) (i : ℕ) (d : Direction) where
       let z = plain_zero s.offset s.limit p in
       long_side h ∙ (unfold long_def plain_or in rw (plain_keyed s p i, z.0, z.1))
 
-  pub window_side : 1 < side_len t s → plain_or s.offset s.limit true false ≡ false
+  pub window_side : 1 < side_len t s → IsWindow s
       → side_def t s i d ≡ window_def s.node s.offset (side_len t s) (keyed s i) d
   unfolding long_def plain_or
   window_side h p = long_side h ∙ by s.offset s.limit p

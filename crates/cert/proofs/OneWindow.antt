@@ -1,17 +1,16 @@
 -- Windows of the same node, offset and number of outputs are one, limit set or not: they are looked up alike.
 use mathlib.Core.Path.{◌≡◌, refl, sym, ◌∙◌, ap}
-use mathlib.Core.Bool.{true, false}
 use mathlib.Core.List.{List, [], ◌∷◌}
 use Prim.Native.Nat.{ℕ, zero, suc, ◌≤◌}
 use native.Mathlib.Decide.{dec_le}
 use native.Mathlib.Omega.{arith}
-use Rattle.totdb.specs.Nodes.{Node, side_len, side_lit, plain_or, keyed}
+use Rattle.totdb.specs.Nodes.{IsWindow, Node, side_len, side_lit, keyed}
 use Rattle.totdb.specs.declared.Side.{Side}
 use Rattle.cert.specs.Definitions.{Direction, if, only_if, Definition, stored, window, one_def, window_def, side_def}
 use Rattle.cert.proofs.Keyed.{short_side, window_side}
 use Rattle.cert.proofs.SchemaCases.{three}
 
-module _ (t : List Node) (s u : Side) (p : plain_or s.offset s.limit true false ≡ false) (q : plain_or u.offset u.limit true false ≡ false)
+module _ (t : List Node) (s u : Side) (p : IsWindow s) (q : IsWindow u)
     (n : s.node ≡ u.node) (f : s.offset ≡ u.offset) (m : side_len t s ≡ side_len t u) where
   same_keyed : (i : ℕ) → keyed s i ≡ keyed u i
   unfolding keyed

@@ -9,7 +9,7 @@ use native.Mathlib.Omega.{arith}
 use lib.ListN.{length, get_or}
 use Rattle.sizes.specs.Sizes.{width, store_at}
 use Rattle.pb.specs.Sum.{neg}
-use Rattle.totdb.specs.Nodes.{Node, node_at, len, leaves, output, from_first, side_len, side_lit, plain_or, keyed}
+use Rattle.totdb.specs.Nodes.{IsWindow, Node, node_at, len, leaves, output, from_first, side_len, side_lit, plain_or, keyed}
 use Rattle.totdb.specs.declared.Side.{Side}
 use Rattle.totdb.proofs.Sides.{keyed_zero, keyed_above, plain_keyed}
 use Rattle.cert.specs.Definitions.{Direction, one_def, side_def}
@@ -181,7 +181,7 @@ module _ {t : List Node} (b : Bounded t) {s : Shown} {a : ℕ} (i : SideIn t s a
         let u = (real_named b (plain_value b h p i)).used in
         rw (plain_keyed s.side p a, d) (real_read f s.side.node a q (rw (plain_keyed s.side p a) at u))
 
-    pub window_operand : plain_or s.side.offset s.side.limit true false ≡ false
+    pub window_operand : IsWindow s.side
         → Step (window_step (get_or store s.window 0) (get_or store (s.window + 1) 0) s.side.offset (keyed s.side a) q)
         ≡ operand (step_in es) (side_def t s.side a (direction q))
     window_operand p =

@@ -2,10 +2,9 @@
 use Rattle.std.specs.Prelude.{◌≡◌, Bool, true, false, not, List, [], ◌∷◌, ◌++◌, ℕ, ◌+◌, ◌^◌, ◌≤◌, ◌<◌, length}
 use Rattle.sizes.specs.Sizes.{most_nodes, width, store_row, store_at}
 use Rattle.pb.specs.Sum.{neg}
-use Rattle.totdb.specs.Nodes.{Node, node_at, len, output}
+use Rattle.totdb.specs.Nodes.{IsWindow, Node, node_at, len, output}
 use Rattle.totdb.specs.declared.Side.{Side}
 use Rattle.cert.specs.Requests.{Clause, of_side, of_node, neg_part, pos_part}
-use Rattle.rows.specs.Windows.{IsWindow}
 use Rattle.rows.specs.Rows.{JoinOf}
 use Rattle.rows.specs.declared.Join.{Join}
 use Rattle.rows.specs.declared.Shown.{Shown}

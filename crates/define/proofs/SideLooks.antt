@@ -7,7 +7,7 @@ use native.Mathlib.Omega.{arith}
 use Rattle.sizes.specs.Sizes.{width}
 use Rattle.memo.specs.Visit.{each}
 use Rattle.record.proofs.Writing.{stays}
-use Rattle.totdb.specs.Nodes.{Node, node_at, len, length_over, limited, plain_or, keyed, side_len, side_lit}
+use Rattle.totdb.specs.Nodes.{IsWindow, Node, node_at, len, length_over, limited, plain_or, keyed, side_len, side_lit}
 use Rattle.totdb.specs.declared.Side.{Side}
 use Rattle.totdb.proofs.Sides.{plain_zero, plain_keyed}
 use Rattle.cert.specs.Definitions.{Direction, real, window, side_def}
@@ -36,7 +36,7 @@ module _ (t : List Node) (s : Side) (a : ℕ) (d : Direction) where
   plain_keys : 1 < side_len t s → plain_or s.offset s.limit true false ≡ true → key_of (side_def t s a d) ≡ real s.node (keyed s a) ∷ []
   plain_keys h p = rw (plain_side t s a d h p, plain_keyed s p a) (real_key s.node a d)
 
-  side_keys_lem : 1 < side_len t s → plain_or s.offset s.limit true false ≡ false
+  side_keys_lem : 1 < side_len t s → IsWindow s
       → key_of (side_def t s a d) ≡ window s.node s.offset (side_len t s) ∷ []
   side_keys_lem h p = rw (window_side t s a d h p) (window_key s.node s.offset (side_len t s) (keyed s a) d)
 
@@ -83,7 +83,7 @@ module _ {ns : List ℕ} (s : Shown) (a : ℕ) where
       onward = x.onward;
     }
 
-    pub window_looks : (d : Direction) {m n : Memory} → plain_or s.side.offset s.side.limit true false ≡ false
+    pub window_looks : (d : Direction) {m n : Memory} → IsWindow s.side
         → Simulates ns (λ t u. SideWindow t s) (λ t u. look_up t (window s.side.node s.side.offset s.len) u) m n
         → SideLooks ns s a d m n
     unfolding each

@@ -2,11 +2,11 @@
 use Rattle.std.specs.Prelude.{◌≡◌, ℕ, ◌+◌, ◌≤◌, ◌<◌, length}
 use mathlib.Core.List.{List, Memᴰ}
 use Rattle.sizes.specs.Sizes.{width}
-use Rattle.totdb.specs.Nodes.{Node, node_at, leaves, len, output, outputs, output_row, from_first}
+use Rattle.totdb.specs.Nodes.{IsWindow, Node, node_at, leaves, len, output, outputs, output_row, from_first}
 use Rattle.cert.specs.Definitions.{Key}
 use Rattle.cert.specs.State.{State, keys}
 use Rattle.rows.specs.Rows.{ShownOf}
-use Rattle.rows.specs.Windows.{IsWindow, window_at}
+use Rattle.rows.specs.Windows.{window_at}
 use Rattle.rows.specs.declared.Shown.{Shown}
 use Rattle.define.specs.Store.{WindowOf}
 

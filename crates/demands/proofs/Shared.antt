@@ -10,7 +10,8 @@ use lib.ListN.{length, take, length-map}
 use Rattle.std.proofs.Math.Option.{some-injective}
 use Rattle.memo.proofs.Lists.{length_subset}
 use Rattle.record.specs.Record.{Record, bytes, clauses}
-use Rattle.totdb.specs.Nodes.{Node, node_at, leaves, len, output, outputs, range, side_len, keyed, side_outputs, plain_or, leaf_count}
+use Rattle.totdb.specs.Nodes.{IsWindow, Node, node_at, leaves, len, output, outputs, range, side_len, keyed, side_outputs, plain_or, leaf_count}
+use Rattle.totdb.specs.Below.{share_leaf}
 use Rattle.totdb.specs.declared.Side.{Side}
 use Rattle.totdb.proofs.Listed.{length_range}
 use Rattle.cert.specs.Definitions.{Direction, Key, window, side_def}
@@ -21,6 +22,7 @@ use Rattle.cert.proofs.Apart.{Apart, sized_ok, numbered_apart}
 use Rattle.cert.proofs.Distinct.{Distinct, different_once, leaves_apart}
 use Rattle.cert.proofs.Keyed.{window_side, window_key}
 use Rattle.cert.proofs.Few.{len_below, below_once}
+use Rattle.cert.proofs.LeavesBelow.{share_no}
 use Rattle.cert.proofs.OneWindow.{same_window}
 use Rattle.cert.proofs.Rules.{Ok}
 use Rattle.player.specs.Formed.{Formed}
@@ -28,7 +30,7 @@ use Rattle.player.specs.Passes.{AllPassed}
 use Rattle.player.specs.Player.{make, act}
 use Rattle.player.specs.Verdict.{Below, joins, OffNode, No, no_8_join, no_9, no_15, no_10, no_14, Reached, one_more}
 use Rattle.player.specs.declared.Command.{Command}
-use Rattle.player.proofs.Below.{common_leaf, of_number}
+use Rattle.player.proofs.Below.{common_leaf, common_number, of_number}
 use Rattle.player.proofs.Decoded.{all_fit}
 use Rattle.player.proofs.Endings.{Led, nowhere, on}
 use Rattle.player.proofs.Defines.{all_told}
@@ -52,7 +54,7 @@ not_plain zero (suc k) n h = refl
 not_plain (suc f) k n h = refl
 
 module _ (t : List Node) where
-  hidden : (a : Side) → Window t a → plain_or a.offset a.limit true false ≡ false
+  hidden : (a : Side) → Window t a → IsWindow a
   hidden a w = not_plain a.offset a.limit (len (node_at t a.node)) w.hides
 
   -- All that is looked up of a window is of its node, offset and number of outputs.
@@ -127,6 +129,10 @@ module _ {h : Head} {s : State} (f : Formed h s) where
     where
       number : ℕ → ℕ
       number x = leaf_count (take x nodes)
+
+-- By the player's test.
+pub none_below : (t : List Node) → Ok t → (n m : ℕ) → share_leaf t n m ≡ false → NoneBelow t n m
+none_below t ok n m e x a b = let c = common_number t ok n m (x, a, b) in share_no t n m e c.0 c.1 c.2
 
 -- ---- a script
 

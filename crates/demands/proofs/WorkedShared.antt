@@ -1,31 +1,31 @@
 -- Two scripts in which a node stands under three joins, through windows: they meet the hypotheses of the demands and of document 02, §5.
-use mathlib.Core.Path.{◌≡◌, refl}
-use mathlib.Core.Logic.{◌≢◌, inl, inr, ⊎_elim}
+use mathlib.Core.Path.{◌≡◌, refl, sym, ◌∙◌}
+use mathlib.Core.Bool.{true, false, true≢false}
+use mathlib.Core.Logic.{◌≢◌, inl, inr}
 use mathlib.Core.List.{List, [], ◌∷◌, ◌++◌, flat_map, head-eq_of_cons-eq, Memᴰ, Nodup}
-use Prim.Native.Nat.{ℕ, ◌≤◌, ◌<◌}
+use Prim.Native.Nat.{ℕ, zero, suc, ◌≤◌, ◌<◌}
 use native.Mathlib.Omega.{arith}
 use lib.ListN.{length, drop}
-use Rattle.number.specs.Number.{Bytes, read_in, above}
+use Rattle.number.specs.Number.{Bytes, encode, encode_in}
 use Rattle.memo.specs.Closure.{SameMembers}
 use Rattle.memo.proofs.Lists.{of_three}
 use Rattle.pb.specs.Sum.{variable}
 use Rattle.record.specs.Record.{clauses}
-use Rattle.totdb.specs.Nodes.{node_at, leaves, len, side_outputs}
+use Rattle.totdb.proofs.Overlap.{any_has}
+use Rattle.totdb.specs.Nodes.{any, node_at, leaves, len, side_outputs}
 use Rattle.totdb.specs.Below.{share_leaf}
 use Rattle.totdb.specs.declared.Side.{Side}
 use Rattle.cert.specs.Definitions.{Direction, if, only_if, Key, side_def}
 use Rattle.cert.specs.Requests.{Request, request, key_of}
 use Rattle.cert.specs.State.{Head, State, start}
-use Rattle.cert.proofs.LeavesBelow.{leaf_join, share_no}
+use Rattle.cert.proofs.LeavesBelow.{leaf_join}
 use Rattle.player.specs.Called.{makes, table}
 use Rattle.player.specs.Player.{act, play, played}
-use Rattle.player.specs.Script.{command_numbers, script_bytes}
+use Rattle.player.specs.Script.{closes, command_numbers, script_bytes}
 use Rattle.player.specs.Verdict.{Below, itself, through_left, through_right, Reads, own_join, joins, offset_high, limit_high, Reached, at_head, one_more}
 use Rattle.player.specs.declared.Command.{Command}
-use Rattle.player.proofs.Accepted.{are_short, script_tested, accepted_reached}
-use Rattle.player.proofs.Below.{common_number}
+use Rattle.player.proofs.Accepted.{are_short, short_tested, script_tested, accepted_reached}
 use Rattle.player.proofs.Coding.{are_bytes, bytes_tested}
-use Rattle.player.proofs.Fronts.{cons_reads, nil_reads}
 use Rattle.player.proofs.Judged.{reached_all, reached_ok}
 use Rattle.player.proofs.Matching.{nodes_table}
 use Rattle.player.proofs.Questions.{accepted_exactly}
@@ -33,7 +33,12 @@ use Rattle.player.proofs.Runs.{asked, asked_from, asked_has}
 use Rattle.demands.specs.Demands.{Alike, Meets3, Demand3}
 use Rattle.demands.specs.Shared.{NoneBelow, Window, SharedIn}
 use Rattle.demands.proofs.Demand3.{demand_3}
-use Rattle.demands.proofs.Shared.{shared_nodes}
+use Rattle.demands.proofs.Shared.{none_below, shared_nodes}
+
+-- No close is among the commands.
+unclosed : (cs : List Command) → any closes cs ≡ false → Memᴰ Command.Close cs → ⊥
+unfolding closes
+unclosed cs e m = true≢false (sym (any_has closes Command.Close cs m refl) ∙ e)
 
 -- Five leaves; node 5 joins the first two, node 6 that and the third, node 7 outputs 2 and 3 of node 6 and the fourth leaf, node 8 the same outputs, by a
 -- limit, and the fifth, node 9 outputs 1 and 2 and the fourth.
@@ -172,16 +177,14 @@ pub own_windows : (k : Key) → Memᴰ k (key_of (side_def (table head first_com
     → Memᴰ k (key_of (side_def (table head first_commands) (side 6 0 2) 2 if)) → ⊥
 own_windows k m n = shared.own (side 6 1 0) (side 6 0 2) shows_7 shows_9 others 2 2 if if k m n
 
--- No leaf lies below both node 7 and the fifth leaf: their join passes every question.
-none_below : NoneBelow (table head first_commands) 7 4
+-- No leaf lies below both node 7 and the fifth leaf.
+apart : NoneBelow (table head first_commands) 7 4
 unfolding head first_commands table share_leaf
-none_below x a b =
-    let c = common_number (table head first_commands) (rw nodes_are at (reached_ok reached.1)) 7 4 (x, a, b) in
-    share_no (table head first_commands) 7 4 refl c.0 c.1 c.2
+apart = none_below (table head first_commands) (rw nodes_are at (reached_ok reached.1)) 7 4 refl
 
 pub no_common : (x y : ℕ) → Memᴰ x (leaves (node_at (table head first_commands) 7)) → Memᴰ y (leaves (node_at (table head first_commands) 4)) → variable x ≢ variable y
 unfolding head first_commands table
-no_common = shared.apart 7 4 (omega arith) (omega arith) none_below
+no_common = shared.apart 7 4 (omega arith) (omega arith) apart
 
 -- Below the first leaf lies no other.
 one_below : (x n : ℕ) → n ≡ 0 → Below (table head first_commands) x n → Memᴰ x (0 ∷ [])
@@ -196,47 +199,56 @@ no_longer = shared.no_longer 0 (0 ∷ []) there (λ x. one_below x 0 refl)
     there : 0 < length (table head first_commands)
     there = unfold head first_commands table in omega arith
 
--- ---- a script that comes past a join
+-- ---- a script that comes past joins: two leaves, and their join twice
 
-unfoldable pub pair : List ℕ
-pair = 2 ∷ 1 ∷ 1 ∷ 0 ∷ 1 ∷ 2 ∷ 2 ∷ 0 ∷ 0 ∷ 0 ∷ 1 ∷ 0 ∷ 0 ∷ []
+unfoldable pub twice : List ℕ
+twice = 2 ∷ 1 ∷ 1 ∷ 0 ∷ 1 ∷ 2 ∷ 2 ∷ 0 ∷ 0 ∷ 0 ∷ 1 ∷ 0 ∷ 0 ∷ 2 ∷ 0 ∷ 0 ∷ 0 ∷ 1 ∷ 0 ∷ 0 ∷ []
 
 unfoldable pub two : Head
 two = record { variable = 2; step = 1 }
 
-at_leaves : Reached pair 0 two [] (start two) (drop 2 pair)
-unfolding pair two are_bytes read_in above
-at_leaves =
-    at_head (omega arith) (omega arith)
-    (cons_reads (bytes_tested pair refl) refl (cons_reads (bytes_tested (drop 1 pair) refl) refl (nil_reads (drop 2 pair)))) (omega arith) (omega arith) (omega arith)
+abbrev pub the_join : Command
+the_join = Command.Join (side 0 0 0) (side 1 0 0)
 
-one_leaf : Reached pair 0 two (Command.Leaf 0 ∷ []) (act (Command.Leaf 0) (start two)) (drop 4 pair)
-unfolding pair two are_bytes read_in above command_numbers play start
+-- The leaves, and n joins.
+unfoldable pub made : ℕ → State
+unfolding start two act side
+made zero = act (Command.Leaf 2) (act (Command.Leaf 0) (start two))
+made (suc n) = act the_join (made n)
+
+tested : (ns rest : List ℕ) → are_short ns ≡ true → Reads (flat_map encode ns ++ rest) ns rest
+tested ns rest e = record { coded = refl; short = short_tested ns e }
+
+at_leaves : Reached twice 0 two [] (start two) (drop 2 twice)
+unfolding twice two are_short encode encode_in flat_map
+at_leaves =
+    at_head (omega arith) (omega arith) (tested (2 ∷ 1 ∷ []) (drop 2 twice) refl) (omega arith) (omega arith) (omega arith)
+
+one_leaf : Reached twice 0 two (Command.Leaf 0 ∷ []) (act (Command.Leaf 0) (start two)) (drop 4 twice)
+unfolding twice two are_short encode encode_in flat_map command_numbers play start
 one_leaf =
-    one_more at_leaves (λ m. mathlib.Core.List.Memᴰ.not-nil m)
-    (cons_reads (bytes_tested (drop 2 pair) refl) refl (cons_reads (bytes_tested (drop 3 pair) refl) refl (nil_reads (drop 4 pair))))
+    one_more at_leaves (λ m. mathlib.Core.List.Memᴰ.not-nil m) (tested (1 ∷ 0 ∷ []) (drop 4 twice) refl)
     ((accepted_exactly two 0 (start two) (reached_ok at_leaves) (Command.Leaf 0)).0 refl)
 
-two_leaves : Reached pair 0 two (Command.Leaf 0 ∷ Command.Leaf 2 ∷ []) (act (Command.Leaf 2) (act (Command.Leaf 0) (start two))) (drop 6 pair)
-unfolding pair two are_bytes read_in above command_numbers play start
+two_leaves : Reached twice 0 two (Command.Leaf 0 ∷ Command.Leaf 2 ∷ []) (made 0) (drop 6 twice)
+unfolding twice two are_short encode encode_in flat_map command_numbers play start made closes any
 two_leaves =
-    one_more one_leaf (λ m. let z = mathlib.Core.List.Memᴰ.eq_of_singleton m in absurd (let y : ◌≡◌ {A = ℕ} 0 1 = cc in omega arith))
-    (cons_reads (bytes_tested (drop 4 pair) refl) refl (cons_reads (bytes_tested (drop 5 pair) refl) refl (nil_reads (drop 6 pair))))
+    one_more one_leaf (unclosed (Command.Leaf 0 ∷ []) refl) (tested (1 ∷ 2 ∷ []) (drop 6 twice) refl)
     ((accepted_exactly two 0 (act (Command.Leaf 0) (start two)) (reached_ok one_leaf) (Command.Leaf 2)).0 refl)
 
-pub past_join : Reached pair 0 two (Command.Leaf 0 ∷ Command.Leaf 2 ∷ Command.Join (side 0 0 0) (side 1 0 0) ∷ [])
-    (act (Command.Join (side 0 0 0) (side 1 0 0)) (act (Command.Leaf 2) (act (Command.Leaf 0) (start two)))) []
-unfolding pair two side are_bytes read_in above command_numbers start act joins own_join flat_map share_leaf
+-- Nothing stands over the leaves when they are joined, and then a join does.
+pub past_join : Reached twice 0 two (Command.Leaf 0 ∷ Command.Leaf 2 ∷ the_join ∷ []) (made 1) (drop 13 twice)
+unfolding twice two are_short encode encode_in flat_map command_numbers made closes any start act side joins own_join share_leaf
 past_join =
-    shared_nodes.joined pair 0 two (Command.Leaf 0 ∷ Command.Leaf 2 ∷ []) (act (Command.Leaf 2) (act (Command.Leaf 0) (start two))) (drop 6 pair) []
-    (side 0 0 0) (side 1 0 0) two_leaves
-    (λ m. ⊎_elim (λ e. absurd (let z : ◌≡◌ {A = ℕ} 0 1 = cc in omega arith)) (λ n. absurd (let e = mathlib.Core.List.Memᴰ.eq_of_singleton n in let z : ◌≡◌ {A = ℕ} 0 1 = cc in omega arith)) (mathlib.Core.List.Memᴰ.cases_cons m))
-    reads (omega arith) (omega arith)
-    (λ x a b. let c = common_number (act (Command.Leaf 2) (act (Command.Leaf 0) (start two))).nodes (reached_ok two_leaves) 0 1 (x, a, b) in share_no (act (Command.Leaf 2) (act (Command.Leaf 0) (start two))).nodes 0 1 refl c.0 c.1 c.2)
-    (omega arith) (λ o. elim o [ offset_high l ↦ omega arith | limit_high l ↦ omega arith ]) (λ o. elim o [ offset_high l ↦ omega arith | limit_high l ↦ omega arith ])
-  where
-    reads : Reads (drop 6 pair) (command_numbers (Command.Join (side 0 0 0) (side 1 0 0))) []
-    reads =
-        cons_reads (bytes_tested (drop 6 pair) refl) refl (cons_reads (bytes_tested (drop 7 pair) refl) refl (cons_reads (bytes_tested (drop 8 pair) refl) refl
-        (cons_reads (bytes_tested (drop 9 pair) refl) refl (cons_reads (bytes_tested (drop 10 pair) refl) refl
-        (cons_reads (bytes_tested (drop 11 pair) refl) refl (cons_reads (bytes_tested (drop 12 pair) refl) refl (nil_reads [])))))))
+    shared_nodes.joined twice 0 two (Command.Leaf 0 ∷ Command.Leaf 2 ∷ []) (made 0) (drop 6 twice) (drop 13 twice) (side 0 0 0) (side 1 0 0) two_leaves
+    (unclosed (Command.Leaf 0 ∷ Command.Leaf 2 ∷ []) refl) (tested (command_numbers the_join) (drop 13 twice) refl) (omega arith)
+    (omega arith) (none_below (made 0).nodes (reached_ok two_leaves) 0 1 refl) (omega arith)
+    (λ o. elim o [ offset_high l ↦ omega arith | limit_high l ↦ omega arith ]) (λ o. elim o [ offset_high l ↦ omega arith | limit_high l ↦ omega arith ])
+
+pub past_both : Reached twice 0 two (Command.Leaf 0 ∷ Command.Leaf 2 ∷ the_join ∷ the_join ∷ []) (made 2) []
+unfolding twice two are_short encode encode_in flat_map command_numbers made closes any start act side joins own_join share_leaf
+past_both =
+    shared_nodes.joined twice 0 two (Command.Leaf 0 ∷ Command.Leaf 2 ∷ the_join ∷ []) (made 1) (drop 13 twice) [] (side 0 0 0) (side 1 0 0) past_join
+    (unclosed (Command.Leaf 0 ∷ Command.Leaf 2 ∷ the_join ∷ []) refl) (tested (command_numbers the_join) [] refl)
+    (omega arith) (omega arith) (none_below (made 1).nodes (reached_ok past_join) 0 1 refl) (omega arith)
+    (λ o. elim o [ offset_high l ↦ omega arith | limit_high l ↦ omega arith ]) (λ o. elim o [ offset_high l ↦ omega arith | limit_high l ↦ omega arith ])

@@ -208,7 +208,7 @@ cases =
     ∷ defines (relay 1 2 1 0) 506 19
     ∷ defines (relay 1 0 0 2) 604 28
     ∷ defines (relay 1 0 0 0) 506 17
-    -- a leaf below both sides; one node twice; a node and one under it, through a window that hides its leaf or not; a node that is not there goes first
+    -- a leaf below both sides; one node twice; a node and one under it, through a window that hides its leaf or not; question 8 goes first
     ∷ plays (leg ++ (joins 5 2 ++ joins 6 3 ++ joins 7 8)) 0 (answer 9 10 0 0 0 9 [])
     ∷ plays (leg ++ joins 6 6) 0 (answer 9 8 0 0 0 7 [])
     ∷ plays (leg ++ (2 ∷ 6 ∷ 2 ∷ 0 ∷ 0 ∷ 0 ∷ 0 ∷ [])) 0 (answer 9 8 0 0 0 7 [])

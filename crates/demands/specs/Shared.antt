@@ -30,7 +30,7 @@ pub record Window (t : List Node) (s : Side) : Type 0 where
 
 -- Of the nodes t that the commands before one have made.
 pub record SharedIn (t : List Node) : Type 0 where
-  -- ".. and each window keeps its definitions;" windows of other outputs look up other ones.
+  -- ".. and each window keeps its definitions;" windows of different outputs look up different definitions.
   pub own : (a b : Side) → Window t a → Window t b → side_outputs t a ≢ side_outputs t b → (i j : ℕ) (d e : Direction) (k : Key)
       → Memᴰ k (key_of (side_def t a i d)) → Memᴰ k (key_of (side_def t b j e)) → ⊥
   -- "windows of the same outputs, limit set or not, are one or two as in the Rust." They are one: all that is looked up of them is the same.

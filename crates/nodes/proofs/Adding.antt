@@ -10,7 +10,7 @@ use lib.ListN.{length, set, take, replicate, length-set, length-append, length-r
 use lib.Seq.{paste, take_at, length-paste, take-append_seam}
 use Rattle.sizes.specs.Sizes.{most_leaves, width, leaf_nodes, row, row_at, left_window, right_window}
 use Rattle.totdb.specs.Below.{leaves_below, mask}
-use Rattle.totdb.specs.Nodes.{Node, leaf, join, node_at, len, leaves, output, range, side_len, side_leaves, join_of, plain_form, leaf_count}
+use Rattle.totdb.specs.Nodes.{IsWindow, Node, leaf, join, node_at, len, leaves, output, range, side_len, side_leaves, join_of, plain_form, leaf_count}
 use Rattle.totdb.specs.Leaves.{LeafEntry}
 use Rattle.totdb.specs.declared.Side.{Side}
 use Rattle.totdb.proofs.Leaves.{leaf_count-leaf, leaf_count-join, entry, leaf_table-leaf, leaf_table-join}
@@ -22,7 +22,7 @@ use Rattle.cert.proofs.LeavesBelow.{below_more, below_leaf, below_join, separate
 use Rattle.cert.proofs.Rules.{side_len-more}
 use Rattle.cert.proofs.Tables.{at_last, length_snoc, side_some}
 use Rattle.rows.specs.declared.Shown.{Shown}
-use Rattle.rows.specs.Windows.{IsWindow, window_at}
+use Rattle.rows.specs.Windows.{window_at}
 use Rattle.rows.specs.Rows.{row_of, KindOf, Row, read_leaf, Bounded, Table}
 use Rattle.rows.proofs.Sides.{left_place, right_place}
 use Rattle.rows.proofs.Growing.{bounded_snoc, table_snoc}

@@ -72,7 +72,7 @@ fn put_row(nodes: &mut [u32], node: usize, r: &[u32; sizes::ROW])
     nodes[at..at + sizes::ROW].copy_from_slice(r);
 }
 
-// The leaves below a node, a bit for each.
+// Writes the leaves below a node, a bit for each, as two numbers.
 fn put_below(r: &mut [u32], below: u64)
     requires { list_column ≤ length r.old }
     ensures { r.new ≡ sets r.old below_column (mask_numbers below) }
@@ -123,10 +123,10 @@ fn window_of(nodes: &[u32], i: usize, s: Side, len: usize) -> Option<usize>
         → result ≡ place_or_none (window_from t s.node s.offset len (node_at t i ∷ []) i) }
 {
     let row = rows::row_at(i);
-    let base = rows::store_at(i);
     if nodes[row + sizes::KIND] == 0 {
         return None;
     }
+    let base = rows::store_at(i);
     if shows(nodes, row + sizes::LEFT, s, len) {
         return Some(base + sizes::LEFT_WINDOW);
     }
@@ -243,7 +243,7 @@ fn plain_form(nodes: &[u32], s: Side) -> Side
     s.plain_form(len(nodes, s.node))
 }
 
-// The same of the plain forms of two sides.
+// A join of two sides in their plain forms. Its length.
 pub fn add_join(nodes: &mut [u32], n: usize, variable: u32, l: Side, r: Side) -> usize
     requires room { row_at (n + 1) ≤ length nodes.old }
     requires joinable { (t : List Node) × Joinable nodes.old t n variable l r }

@@ -125,7 +125,7 @@ unfolding encode
 are_short [] = true
 are_short (x ∷ ns) = leb (length (encode x)) groups && are_short ns
 
-short_tested : (ns : List ℕ) → are_short ns ≡ true → (x : ℕ) → Memᴰ x ns → length (encode x) ≤ groups
+pub short_tested : (ns : List ℕ) → are_short ns ≡ true → (x : ℕ) → Memᴰ x ns → length (encode x) ≤ groups
 unfolding are_short
 short_tested [] e x m = absurd (Memᴰ.not-nil m)
 short_tested (n ∷ ns) e x m =

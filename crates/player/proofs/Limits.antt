@@ -1,4 +1,4 @@
--- Leaves and joins are few, so nodes and variables are few; and a node is as long as there are leaves below it at most.
+-- Leaves and joins are few; so nodes are few and short, and variables low.
 use mathlib.Core.Path.{◌≡◌, refl, subst}
 use mathlib.Core.Bool.{Bool, true, false}
 use mathlib.Core.List.{List, [], ◌∷◌, ◌++◌}
@@ -22,16 +22,12 @@ use Rattle.player.proofs.Questions.{leaf_few}
 -- ---- the joins of a table with one node more
 
 pub join_count-leaf : (t : List Node) (l : ℕ) → join_count (t ++ (leaf l ∷ [])) ≡ join_count t
-unfolding join_count
-join_count-leaf [] l = refl
-join_count-leaf (leaf m ∷ t) l = join_count-leaf t l
-join_count-leaf (join ls o a b ∷ t) l = omega (arith, join_count-leaf t l)
+join_count-leaf t l = omega (arith, nodes_are t, nodes_are (t ++ (leaf l ∷ [])), leaf_count-leaf t l, length_snoc t (leaf l))
 
 pub join_count-join : (t : List Node) (ls : List ℕ) (o : ℕ) (l r : Side) → join_count (t ++ (join ls o l r ∷ [])) ≡ join_count t + 1
-unfolding join_count
-join_count-join [] ls o l r = refl
-join_count-join (leaf m ∷ t) ls o l r = join_count-join t ls o l r
-join_count-join (join ms p a b ∷ t) ls o l r = omega (arith, join_count-join t ls o l r)
+join_count-join t ls o l r =
+    let a : Node = join ls o l r in
+    omega (arith, nodes_are t, nodes_are (t ++ (a ∷ [])), leaf_count-join t ls o l r, length_snoc t a)
 
 -- ---- every command
 

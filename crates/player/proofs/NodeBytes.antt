@@ -12,7 +12,6 @@ use Rattle.totdb.specs.Nodes.{Node, leaf, joined, known, leaf_count, join_count}
 use Rattle.totdb.proofs.Leaves.{leaf_count-leaf, leaf_count-join}
 use Rattle.cert.specs.State.{State, Head, start, serve, requests}
 use Rattle.cert.proofs.Apart.{sized_ok}
-use Rattle.cert.proofs.Tables.{length_snoc}
 use Rattle.player.specs.Formed.{Sound}
 use Rattle.player.specs.Player.{first_no, questions, act, make, delete, play, accepted}
 use Rattle.player.specs.Script.{Next, command, refuse, get, arguments, read_command, command_numbers}

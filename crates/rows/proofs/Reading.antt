@@ -7,9 +7,9 @@ use lib.ListN.{length, get_or, take, drop}
 use lib.Seq.{get_or-take, get_or-drop, take-take, drop-drop}
 use Rattle.sizes.specs.Sizes.{most_nodes, width, row, row_at, length_column, first_column, below_column, left_column, right_column, list_column, side_len_column, side_window_column, first_at, below_at, left_at, right_at, list_at, left_window, right_window}
 use Rattle.totdb.specs.Below.{leaves_below, mask}
-use Rattle.totdb.specs.Nodes.{Node, leaf, join, node_at, leaves, len, output, from_first, side_len}
+use Rattle.totdb.specs.Nodes.{IsWindow, Node, leaf, join, node_at, leaves, len, output, from_first, side_len}
 use Rattle.totdb.specs.declared.Side.{Side}
-use Rattle.rows.specs.Windows.{SideAt, at_left, at_right, IsWindow, window_at}
+use Rattle.rows.specs.Windows.{SideAt, at_left, at_right, window_at}
 use Rattle.rows.specs.Rows.{row_of, read_side, SideRow, KindOf, Table, read_shown, ShownOf, SidePlace, JoinPlace, JoinOf, read_join}
 use Rattle.rows.proofs.Sides.{side_inside}
 

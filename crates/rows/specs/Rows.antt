@@ -1,12 +1,12 @@
 -- The table of the nodes: what its numbers say of a list of nodes, and what holds of these nodes alone.
 use Rattle.std.specs.Prelude.{◌≡◌, List, map, ℕ, ◌+◌, ◌*◌, ◌^◌, ◌≤◌, ◌<◌, length, get_or, take, drop}
 use Rattle.sizes.specs.Sizes.{most_leaves, most_nodes, width, leaf_nodes, row, row_at, length_column, first_column, kind_column, below_column, left_column, right_column, list_column, side_len_column, side_window_column, first_at, left_at, right_at}
-use Rattle.totdb.specs.Nodes.{Node, leaf, join, node_at, len, leaves, output, range, side_len, leaf_count}
+use Rattle.totdb.specs.Nodes.{IsWindow, Node, leaf, join, node_at, len, leaves, output, range, side_len, leaf_count}
 use Rattle.totdb.specs.Below.{leaves_below, mask}
 use Rattle.totdb.specs.Leaves.{LeafEntry, leaf_table}
 use Rattle.totdb.specs.declared.Side.{Side}
 use Rattle.cert.specs.Sized.{Sized}
-use Rattle.rows.specs.Windows.{SideAt, IsWindow, window_at}
+use Rattle.rows.specs.Windows.{SideAt, window_at}
 use Rattle.rows.specs.declared.Join.{Join}
 use Rattle.rows.specs.declared.Shown.{Shown}
 

@@ -1,17 +1,13 @@
 -- The sides of a table of nodes, and the place in the store of a window's first steps: with the first side that shows the same outputs.
-use Rattle.std.specs.Prelude.{◌≡◌, Bool, true, false, cond, ◌&&◌, List, [], ◌∷◌, ℕ, suc, ◌<◌, eqb, length}
+use Rattle.std.specs.Prelude.{◌≡◌, Bool, true, cond, ◌&&◌, List, [], ◌∷◌, ℕ, suc, ◌<◌, eqb, length}
 use Rattle.sizes.specs.Sizes.{left_at, right_at, left_window, right_window}
-use Rattle.totdb.specs.Nodes.{Node, leaf, join, node_at, side_len, plain_or}
+use Rattle.totdb.specs.Nodes.{Node, leaf, join, node_at, side_len}
 use Rattle.totdb.specs.declared.Side.{Side}
 
 -- A side of a join of the table: the place of its row, and where the first steps of its window would stand.
 pub data SideAt (t : List Node) : ℕ → ℕ → Side → Type 0 where
   at_left : (n : ℕ) (ls : List ℕ) (o : ℕ) (l r : Side) → n < length t → node_at t n ≡ join ls o l r → SideAt t (left_at n) (left_window n) l
   at_right : (n : ℕ) (ls : List ℕ) (o : ℕ) (l r : Side) → n < length t → node_at t n ≡ join ls o l r → SideAt t (right_at n) (right_window n) r
-
--- A side with an offset or a limit.
-abbrev pub IsWindow : Side → Type 0
-IsWindow s = plain_or s.offset s.limit true false ≡ false
 
 -- A side shows m outputs of the node n above the offset f.
 unfoldable pub shows : List Node → ℕ → ℕ → ℕ → Side → Bool

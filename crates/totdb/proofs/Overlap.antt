@@ -9,7 +9,7 @@ use Rattle.totdb.specs.Nodes.{any}
 use Rattle.totdb.specs.Below.{overlap}
 
 module _ {A : Type 0} (f : A → Bool) where
-  any_has : (x : A) (xs : List A) → Memᴰ x xs → f x ≡ true → any f xs ≡ true
+  pub any_has : (x : A) (xs : List A) → Memᴰ x xs → f x ≡ true → any f xs ≡ true
   unfolding any
   any_has x xs (Memᴰ.head {x = y} {xs = ys} e) p = rw (sym (ap f e) ∙ p)
   any_has x xs (Memᴰ.tail {x = y} {xs = ys} i) p = by (f y) (any_has x ys i p)

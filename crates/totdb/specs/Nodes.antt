@@ -1,5 +1,5 @@
 -- Nodes and sides, as functions of a table of nodes: length, outputs, leaf lists, and what the table has.
-use Rattle.std.specs.Prelude.{Bool, true, false, ◌||◌, List, [], ◌∷◌, ◌++◌, map, ℕ, zero, suc, ◌+◌, ◌-◌, ◌*◌, eqb, length, get_or, take, drop, replicate}
+use Rattle.std.specs.Prelude.{◌≡◌, Bool, true, false, ◌||◌, List, [], ◌∷◌, ◌++◌, map, ℕ, zero, suc, ◌+◌, ◌-◌, ◌*◌, eqb, length, get_or, take, drop, replicate}
 use Rattle.sizes.specs.Sizes.{width}
 use Rattle.totdb.specs.declared.Side.{Side}
 
@@ -95,6 +95,10 @@ unfoldable pub plain_or : {A : Type 0} → ℕ → ℕ → A → A → A
 plain_or zero zero a b = a
 plain_or zero (suc k) a b = b
 plain_or (suc f) k a b = b
+
+-- A side with an offset or a limit.
+abbrev pub IsWindow : Side → Type 0
+IsWindow s = plain_or s.offset s.limit true false ≡ false
 
 -- A plain side gives its node's leaf list, a window its own outputs.
 unfoldable pub side_leaves : List Node → Side → List ℕ
