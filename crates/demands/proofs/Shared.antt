@@ -64,11 +64,15 @@ module _ (t : List Node) where
       Memᴰ.eq_of_singleton
       (rw (window_side t a i d w.several (hidden a w), window_key a.node a.offset (side_len t a) (keyed a i) d) at m)
 
-  outputs_first : (a : Side) → Window t a → (l : ℕ) × (side_outputs t a ≡ output (node_at t a.node) (a.offset + 1) ∷ map (output (node_at t a.node)) (range (a.offset + 2) l))
+  -- Outputs that begin with the one after the offset.
+  abbrev First : Side → List ℕ → Type 0
+  First a os = (l : ℕ) × (os ≡ output (node_at t a.node) (a.offset + 1) ∷ map (output (node_at t a.node)) (range (a.offset + 2) l))
+
+  outputs_first : (a : Side) → Window t a → First a (side_outputs t a)
   unfolding side_outputs outputs range
   outputs_first a w = by (side_len t a) w.several
     where
-      by : (m : ℕ) → 2 ≤ m → (l : ℕ) × (outputs (node_at t a.node) a.offset m ≡ output (node_at t a.node) (a.offset + 1) ∷ map (output (node_at t a.node)) (range (a.offset + 2) l))
+      by : (m : ℕ) → 2 ≤ m → First a (outputs (node_at t a.node) a.offset m)
       by zero l = absurd (omega arith)
       by (suc m) l = let e : suc (a.offset + 1) ≡ a.offset + 2 = omega arith in (m, rw (← e) refl)
 
@@ -90,7 +94,9 @@ module _ {h : Head} {s : State} (f : Formed h s) where
       let i = side_in nodes a w.inside in
       let j = side_in nodes b v.inside in
       let first = head-eq_of_cons-eq (sym p.1 ∙ e ∙ q.1) in
-      let r = numbered_apart h.variable nodes f.sound.numbered a.node b.node (a.offset + 1) (b.offset + 1) w.there v.there (omega arith) (omega (arith, i.1)) (omega arith) (omega (arith, j.1)) first in
+      let r =
+      numbered_apart h.variable nodes f.sound.numbered a.node b.node (a.offset + 1) (b.offset + 1) w.there v.there (omega arith) (omega (arith, i.1))
+      (omega arith) (omega (arith, j.1)) first in
       (r.0, omega (arith, r.1), sym (outputs_long nodes a) ∙ ap length e ∙ outputs_long nodes b)
 
   own_window : (a b : Side) → Window nodes a → Window nodes b → side_outputs nodes a ≢ side_outputs nodes b → (i j : ℕ) (d e : Direction) (k : Key)

@@ -18,9 +18,9 @@ use Rattle.cert.specs.Requests.{Request, request}
 use Rattle.cert.specs.State.{Head, State, start}
 use Rattle.player.specs.Accepted.{pointwise_nil, pointwise_cons}
 use Rattle.player.specs.Called.{makes, table}
-use Rattle.player.specs.Player.{act, played}
+use Rattle.player.specs.Player.{Outcome, act, played}
 use Rattle.player.specs.Script.{command_numbers, script_bytes}
-use Rattle.player.specs.Verdict.{own_literal, leaf_literals, Reached, at_head}
+use Rattle.player.specs.Verdict.{IsScript, own_literal, leaf_literals, Reached, at_head}
 use Rattle.player.specs.declared.Command.{Command}
 use Rattle.player.proofs.Runs.{asked, asked_from, asked_has}
 use Rattle.player.proofs.Accepted.{are_short, script_tested, accepted_reached}
@@ -96,18 +96,21 @@ pub second_bytes : Bytes second
 unfolding second are_bytes
 second_bytes = bytes_tested second refl
 
+-- Two scripts are alike by their commands, which compute.
+pub alike_tested : (bs ds : List ℕ) (o p : Outcome) (h : Head) (cs es : List Command) → IsScript bs h cs → IsScript ds h es → o.number ≡ 0
+    → p.number ≡ 0 → makes cs ≡ makes es → SameMembers (asked cs) (asked es) → Alike bs ds o p h cs es
+alike_tested bs ds o p h cs es i j a b makes same = record {
+  one_head = (i, j);
+  accepted_both = (a, b);
+  same_makes = makes;
+  same_asked = λ x. (λ m. asked_from es x ((same x).0 (asked_has cs x m)), λ m. asked_from cs x ((same x).1 (asked_has es x m)));
+}
+
 pub alike : Alike first second (played first 600) (played second 700) head first_commands second_commands
 unfolding first second head first_commands second_commands are_short script_bytes command_numbers flat_map played makes asked
-alike = record {
-  one_head = (script_tested first head first_commands refl refl, script_tested second head second_commands refl refl);
-  accepted_both = (refl, refl);
-  same_makes = refl;
-  same_asked = λ x.
-      let same = three (request 6 1 if) (request 6 2 only_if) (request 5 2 if) x in (
-        λ a. asked_from second_commands x (same.0 (asked_has first_commands x a)),
-        λ a. asked_from first_commands x (same.1 (asked_has second_commands x a)),
-      );
-}
+alike =
+    alike_tested first second (played first 600) (played second 700) head first_commands second_commands (script_tested first head first_commands refl refl)
+    (script_tested second head second_commands refl refl) refl refl refl (three (request 6 1 if) (request 6 2 only_if) (request 5 2 if))
 
 -- What the demands say of them.
 pub ends : Meets1 first 600 (played first 600)

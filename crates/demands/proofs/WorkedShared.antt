@@ -1,9 +1,9 @@
 -- Two scripts in which a node stands under three joins, through windows: they meet the hypotheses of the demands and of document 02, §5.
 use mathlib.Core.Path.{◌≡◌, refl, sym, ◌∙◌}
 use mathlib.Core.Bool.{true, false, true≢false}
-use mathlib.Core.Logic.{◌≢◌, inl, inr}
+use mathlib.Core.Logic.{◌≢◌, ◌⊎◌, inl, inr}
 use mathlib.Core.List.{List, [], ◌∷◌, ◌++◌, flat_map, head-eq_of_cons-eq, Memᴰ, Nodup}
-use Prim.Native.Nat.{ℕ, zero, suc, ◌≤◌, ◌<◌}
+use Prim.Native.Nat.{ℕ, zero, suc, ◌≤◌, ◌<◌, ◌-◌}
 use native.Mathlib.Omega.{arith}
 use lib.ListN.{length, drop}
 use Rattle.number.specs.Number.{Bytes, encode, encode_in}
@@ -12,7 +12,7 @@ use Rattle.memo.proofs.Lists.{of_three}
 use Rattle.pb.specs.Sum.{variable}
 use Rattle.record.specs.Record.{clauses}
 use Rattle.totdb.proofs.Overlap.{any_has}
-use Rattle.totdb.specs.Nodes.{any, node_at, leaves, len, side_outputs}
+use Rattle.totdb.specs.Nodes.{any, limited, node_at, leaves, len, side_outputs}
 use Rattle.totdb.specs.Below.{share_leaf}
 use Rattle.totdb.specs.declared.Side.{Side}
 use Rattle.cert.specs.Definitions.{Direction, if, only_if, Key, side_def}
@@ -29,11 +29,12 @@ use Rattle.player.proofs.Coding.{are_bytes, bytes_tested}
 use Rattle.player.proofs.Judged.{reached_all, reached_ok}
 use Rattle.player.proofs.Matching.{nodes_table}
 use Rattle.player.proofs.Questions.{accepted_exactly}
-use Rattle.player.proofs.Runs.{asked, asked_from, asked_has}
+use Rattle.player.proofs.Runs.{asked}
 use Rattle.demands.specs.Demands.{Alike, Meets3, Demand3}
 use Rattle.demands.specs.Shared.{NoneBelow, Window, SharedIn}
 use Rattle.demands.proofs.Demand3.{demand_3}
 use Rattle.demands.proofs.Shared.{none_below, shared_nodes}
+use Rattle.demands.proofs.Worked.{alike_tested}
 
 -- No close is among the commands.
 unclosed : (cs : List Command) → any closes cs ≡ false → Memᴰ Command.Close cs → ⊥
@@ -95,16 +96,9 @@ second_bytes = bytes_tested second refl
 
 pub alike : Alike first second (played first 500) (played second 500) head first_commands second_commands
 unfolding first second head first_commands second_commands are_short script_bytes command_numbers flat_map played makes asked
-alike = record {
-  one_head = (script_tested first head first_commands refl refl, script_tested second head second_commands refl refl);
-  accepted_both = (refl, refl);
-  same_makes = refl;
-  same_asked = λ x.
-      let same = turned (request 7 1 if) (request 7 1 only_if) (request 8 3 if) x in (
-        λ a. asked_from second_commands x (same.0 (asked_has first_commands x a)),
-        λ a. asked_from first_commands x (same.1 (asked_has second_commands x a)),
-      );
-}
+alike =
+    alike_tested first second (played first 500) (played second 500) head first_commands second_commands (script_tested first head first_commands refl refl)
+    (script_tested second head second_commands refl refl) refl refl refl (turned (request 7 1 if) (request 7 1 only_if) (request 8 3 if))
 
 pub matched : Meets3 head first_commands second_commands (played first 500) (played second 500)
 unfolding Demand3
@@ -132,37 +126,24 @@ shared : SharedIn (table head first_commands)
 shared =
     rw nodes_are at (shared_nodes.nodes first 500 head first_commands reached.0 [] reached.1)
 
--- The windows of nodes 7, 8 and 9.
-module _ (f k : ℕ) where
-  abbrev Shows : Type 0
-  Shows = Window (table head first_commands) (side 6 f k)
-
-shows_7 : Shows 1 0
+-- The windows of nodes 7, 8 and 9: node 6 has three outputs.
+shows : (f k : ℕ) → f < 3 → k ≤ 3 - f → (0 < f) ⊎ ((0 < k) × (k < 3)) → 2 ≤ limited k (3 - f) → Window (table head first_commands) (side 6 f k)
 unfolding head first_commands table side
-shows_7 = record {
+shows f k low inside hides several = record {
   there = omega arith;
   inside = λ o. elim o [ offset_high l ↦ omega arith | limit_high l ↦ omega arith ];
-  hides = inl (omega arith);
-  several = omega arith;
+  hides = hides;
+  several = several;
 }
 
-shows_8 : Shows 1 2
-unfolding head first_commands table side
-shows_8 = record {
-  there = omega arith;
-  inside = λ o. elim o [ offset_high l ↦ omega arith | limit_high l ↦ omega arith ];
-  hides = inl (omega arith);
-  several = omega arith;
-}
+shows_7 : Window (table head first_commands) (side 6 1 0)
+shows_7 = shows 1 0 (omega arith) (omega arith) (inl (omega arith)) (unfold limited in omega arith)
 
-shows_9 : Shows 0 2
-unfolding head first_commands table side
-shows_9 = record {
-  there = omega arith;
-  inside = λ o. elim o [ offset_high l ↦ omega arith | limit_high l ↦ omega arith ];
-  hides = inr (omega arith, omega arith);
-  several = omega arith;
-}
+shows_8 : Window (table head first_commands) (side 6 1 2)
+shows_8 = shows 1 2 (omega arith) (omega arith) (inl (omega arith)) (unfold limited in omega arith)
+
+shows_9 : Window (table head first_commands) (side 6 0 2)
+shows_9 = shows 0 2 (omega arith) (omega arith) (inr (omega arith, omega arith)) (unfold limited in omega arith)
 
 pub one_window : (i : ℕ) (d : Direction) → side_def (table head first_commands) (side 6 1 0) i d ≡ side_def (table head first_commands) (side 6 1 2) i d
 unfolding head first_commands table side side_outputs
