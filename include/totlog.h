@@ -21,7 +21,7 @@ extern "C" {
 // Six numbers of four bytes, low byte first.
 #define TOTLOG_ANSWER_BYTES 24
 
-// The free stack that a call needs. Its tables are local arrays: a call takes 334,864 bytes at most, as `tests/run` measures, which
+// The free stack that a call needs. Its tables are local arrays: a call takes 334,880 bytes at most, as `tests/run` measures, which
 // fails where it is more than this. A thread with a smaller stack has to be given one of this size at least.
 #define TOTLOG_STACK_BYTES 393216
 

@@ -34,7 +34,7 @@ module _ (v m : ℕ) (l r : Shown) (a b : List ℕ) (e : l.len ≡ length a) (f 
       h ∙ rw first (put_list (head ++ a) b (list_column + l.len) r.len (width - l.len) (omega (arith, length-append head a)) (sym f)
       ∙ append_assoc head a (b ++ replicate (width - l.len - r.len) 0))
 
-  pub row_made : {x y u z w : List ℕ} → x ≡ paste (replicate row 0) list_column a l.len → y ≡ paste x (list_column + l.len) b r.len
-      → u ≡ sets (set (set (set y length_column (l.len + r.len)) first_column (2 * v)) kind_column 1) below_column (mask_numbers m)
-      → z ≡ sets u left_column (side_numbers l) → w ≡ sets z right_column (side_numbers r) → w ≡ join_numbers v m l a r b
-  row_made g h j i k = k ∙ rw (i, j, both_lists g h, e, f)
+  pub row_made : {x y u z w : List ℕ} {k : ℕ} → x ≡ paste (replicate row 0) list_column a l.len → y ≡ paste x (list_column + l.len) b r.len
+      → u ≡ sets (set (set (set y length_column (l.len + r.len)) first_column (2 * v)) kind_column 1) below_column (mask_numbers k)
+      → k ≡ m → z ≡ sets u left_column (side_numbers l) → w ≡ sets z right_column (side_numbers r) → w ≡ join_numbers v m l a r b
+  row_made g h j same i last = last ∙ rw (i, j, same, both_lists g h, e, f)

@@ -56,6 +56,11 @@ module _ {ns : List ℕ} {t : List Node} (tb : Table ns t) (n f m : ℕ) where
       let e = (numbers tb of).0 in
       rw (ap (λ (u : Side). u.node) e, ap (λ (u : Side). u.offset) e, (numbers tb of).1)
 
+  -- Where the node and the offset are these, the length decides.
+  pub shows_length : {p w : ℕ} {s : Side} → SideAt t p w s → eqb (get_or ns p 0) n ≡ true → eqb (get_or ns (p + 1) 0) f ≡ true
+      → eqb (get_or ns (p + side_len_column) 0) m ≡ shows t n f m s
+  shows_length of node offset = rw (node, offset) at (shows_read of)
+
   module _ (i : ℕ) (there : i < length t) where
     kind : (x : Node) → node_at t i ≡ x → KindOf (row_of ns i) t x
     kind x e = subst (KindOf (row_of ns i) t) e (tb.has.row i there).kind

@@ -10,6 +10,7 @@ use borrow.Author.Tests.{eqb-true, eq-eqb, ne_eqb}
 use lib.Dec.{eqb}
 use lib.ListN.{length}
 use Rattle.sizes.specs.Sizes.{left_window, right_window}
+use Rattle.std.specs.Cmp.Derive.{both_true}
 use Rattle.memo.proofs.Booleans.{and_true}
 use Rattle.totdb.specs.Nodes.{Node, leaf, join, node_at, len, side_len}
 use Rattle.totdb.specs.declared.Side.{Side}
@@ -34,7 +35,8 @@ module _ {t : List Node} (b : Bounded t) where
 
 shows_self : (t : List Node) (s : Side) → shows t s.node s.offset (side_len t s) s ≡ true
 unfolding shows
-shows_self t s = rw (eq-eqb s.node s.node refl, eq-eqb s.offset s.offset refl, eq-eqb (side_len t s) (side_len t s) refl)
+shows_self t s =
+    both_true (both_true (eq-eqb s.node s.node refl) (eq-eqb s.offset s.offset refl)) (eq-eqb (side_len t s) (side_len t s) refl)
 
 pub side_shows : {t : List Node} {p w : ℕ} {s : Side} → SideAt t p w s → Showing t s.node s.offset (side_len t s) w
 side_shows {t} {s = s} of = record { row = _; side = s; of = of; is = shows_self t s }
