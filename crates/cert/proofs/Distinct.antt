@@ -199,19 +199,9 @@ module _ (t : List Node) (sz : Sized t) where
         by (suc o) k = unfold plain_or in out
 
     module _ (n : ℕ) (ls : List ℕ) (o : ℕ) (l r : Side) (h : n < length t) (e : node_at t n ≡ join ls o l r) where
-      left_owner : (x : ℕ) → Memᴰ x (side_leaves t l) → Owner t l.node x
-      unfolding Fit
-      left_owner =
-          let f = fit_at t sz n ls o l r h e in
-          let b : l.node < length t = omega (arith, f.0) in
-          handed l b f.3 (owners l.node b)
-
-      right_owner : (x : ℕ) → Memᴰ x (side_leaves t r) → Owner t r.node x
-      unfolding Fit
-      right_owner =
-          let f = fit_at t sz n ls o l r h e in
-          let b : r.node < length t = omega (arith, f.1) in
-          handed r b f.4 (owners r.node b)
+      side_owner : (s : Side) → s.node < n → s.offset + side_len t s ≤ len (node_at t s.node) → (x : ℕ) → Memᴰ x (side_leaves t s)
+          → Owner t s.node x
+      side_owner s low inside = let b : s.node < length t = omega arith in handed s b inside (owners s.node b)
 
       sides_different : Different (leaves (node_at t l.node)) → Different (leaves (node_at t r.node)) → Different (leaves (node_at t n))
       unfolding Fit
@@ -225,7 +215,7 @@ module _ (t : List Node) (sz : Sized t) where
       unfolding Fit
       own_outputs x j m a b =
           let f = fit_at t sz n ls o l r h e in
-          ⊎_elim (λ i. earlier l.node f.0 (left_owner x i)) (λ i. earlier r.node f.1 (right_owner x i))
+          ⊎_elim (λ i. earlier l.node f.0 (side_owner l f.0 f.3 x i)) (λ i. earlier r.node f.1 (side_owner r f.1 f.4 x i))
           (Memᴰ.append_cases (side_leaves t l) (rw (leaves_at n ls o l r h e) at m))
         where
           earlier : (k : ℕ) → k < n → Owner t k x → variable x ≢ variable (output (node_at t n) j)
@@ -238,7 +228,7 @@ module _ (t : List Node) (sz : Sized t) where
             omega (arith, f.0),
             omega (arith, f.1),
             λ i m x y j. owners_apart l.node r.node (output (node_at t l.node) i) m f.2
-                (owner_own l.node i (omega (arith, f.0)) x y) (right_owner m j),
+                (owner_own l.node i (omega (arith, f.0)) x y) (side_owner r f.1 f.4 m j),
           )
 
     -- Shared nodes and windows included, the variables of every leaf list are different.
