@@ -1,10 +1,11 @@
 -- Laws of writing: what a number, one writer after another, and a record that was written apart leave.
 use mathlib.Core.Path.{◌≡◌, refl, sym, ap, ◌∙◌}
 use mathlib.Core.List.{List, [], ◌∷◌, ◌++◌, append_assoc, append-nil, flat_map}
-use Prim.Native.Nat.{ℕ, ◌+◌, ◌≤◌, ◌<◌}
+use Prim.Native.Nat.{ℕ, ◌+◌, ◌-◌, ◌≤◌, ◌<◌}
 use native.Mathlib.Decide.{dec_le}
 use native.Mathlib.Omega.{arith}
 use borrow.Author.Tests.{le-leb, lt-leb}
+use lib.Dec.{leb}
 use lib.ListN.{length, set, take, drop, length-append, length-set}
 use lib.Seq.{take_at, take-take, length-take-le}
 use Rattle.memo.proofs.Lists.{flat_map_append}
@@ -65,6 +66,14 @@ append_nothing b = by (dec_le b.at (length b.log))
         let z : length {A = ℕ} [] ≡ 0 = refl in
         rw (content_in b.log b.at h, append_fits (length b.log) [] (take b.at b.log) (omega (arith, s, z)), append-nil)
     by (no h) = rw (content_over b.log b.at (omega arith), append_none)
+
+-- The test of the room, by what is left.
+pub room_left : (l a n : ℕ) → n ≤ l → leb a (l - n) ≡ leb (a + n) l
+room_left l a n h = by (dec_le (a + n) l)
+  where
+    by : Dec (a + n ≤ l) → leb a (l - n) ≡ leb (a + n) l
+    by (yes k) = rw (le-leb (a + n) l k) (le-leb a (l - n) (omega arith))
+    by (no k) = rw (lt-leb (a + n) l (omega arith)) (lt-leb a (l - n) (omega arith))
 
 -- ---- one writer after another
 

@@ -7,7 +7,7 @@ use native.Mathlib.Decide.{ℕ_discrete}
 use native.Mathlib.Omega.{arith}
 use borrow.Author.Tests.{eq-eqb, ne_eqb}
 use lib.Dec.{eqb}
-use Rattle.totdb.specs.Nodes.{leaf, join, output, from_first, limited, length_over, limit_over, plain_over, plain_or, keyed}
+use Rattle.totdb.specs.Nodes.{leaf, join, output, from_first, limited, length_over, limit_over, plain_over, plain_or, keyed, part}
 use Rattle.totdb.specs.declared.Side.{Side}
 
 limited_set : (k n : ℕ) → 0 < k → limited k n ≡ k
@@ -103,6 +103,10 @@ module _ (f k : ℕ) where
       by_offset : (f : ℕ) → 0 < f → eqb f 0 ≡ plain_or f k true false
       by_offset zero h = absurd (omega arith)
       by_offset (suc f) h = ne_eqb (suc f) 0 (omega arith)
+
+-- A part, by where it starts and how long it is.
+pub same_part : (l : List ℕ) {i n j m : ℕ} → i ≡ j → n ≡ m → part l i n ≡ part l j m
+same_part l e f = rw (e, f)
 
 -- The outputs of a node, from its first.
 pub join_outputs_lem : (ls : List ℕ) (o : ℕ) (l r : Side) (i : ℕ) → 1 ≤ i → output (join ls o l r) i ≡ from_first (2 * o) i
