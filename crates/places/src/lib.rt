@@ -94,10 +94,13 @@ fn after_record(log: &[u8], at: usize) -> usize
 {
     let kind = number_at(log, at);
     let first = number_at(log, kind.end);
+    // A derivation has no second number.
+    if kind.value == kinds::DERIVATION {
+        return after_tokens(log, first.value, first.end);
+    }
     let second = number_at(log, first.end);
     match kind.value {
         kinds::SUM => after_numbers(log, 2 * u64::from(second.value) + 1, second.end),
-        kinds::DERIVATION => after_tokens(log, first.value, first.end),
         kinds::CLAUSE => after_numbers(log, u64::from(second.value), second.end),
         _ => after_numbers(log, u64::from(first.value), first.end),
     }
