@@ -126,10 +126,10 @@ module _ {t : List Node} {x : Join} {v : ℕ} (i : JoinIn t x v) where
       ∙ ap (map {B = Clause} (split_clause t x v true)) (splits_are w)
 
 module _ {ns : List ℕ} {x : Join} {v : ℕ} where
-  pub none_yet : (b : Bool) (low : ℕ) {m : Memory} → Simulates ns (λ t u. JoinIn t x v) (splits_to x v b low low) m m
+  pub none_yet : (b : Bool) (low a : ℕ) {m : Memory} → a ≡ low → Simulates ns (λ t u. JoinIn t x v) (splits_to x v b low a) m m
   unfolding each range
-  none_yet b low =
-      let e : 0 ≡ low - low = omega arith in
+  none_yet b low a h =
+      let e : 0 ≡ a - low = omega arith in
       sims_same (λ t u l i. ap (λ (k : ℕ). each (write_clause t) (map {B = Clause} (split_clause t x v b) (range low k)) u) e) sims_none
 
   pub one_more : {b : Bool} {low high : ℕ} (a : ℕ) {z : Split} {m n p : Memory} → Between x v b low high → low ≤ a → a ≤ high → z ≡ split_of v b a

@@ -6,8 +6,9 @@ use native.Mathlib.Decide.{dec_lt}
 use native.Mathlib.Numerals.{add-one}
 use native.Mathlib.Omega.{arith}
 use borrow.Author.Tests.{lt-ltb, le-ltb}
-use lib.ListN.{length, set, take, drop, length-append}
+use lib.ListN.{length, get_or, set, take, drop, length-append}
 use lib.Seq.{set_at, take_all, take-append_seam}
+use Rattle.std.proofs.lemmas.List.{get_or-take, get_or-drop}
 use Rattle.text.specs.Text.{Page, page, print, prints, Prints, laid, decimal_in, decimal}
 
 -- ---- one writer after another
@@ -24,6 +25,12 @@ prints_append p (b ∷ bs) cs = prints_append (print p b) bs cs
 -- Nested to the right, so that the lists compute.
 pub after : {p q r : Page} {bs cs : List ℕ} → Prints p bs q → Prints q cs r → Prints p (bs ++ cs) r
 after {p} {q} {r} {bs} {cs} h k = record { is = k.is ∙ ap (λ (a : Page). prints a cs) h.is ∙ prints_append p bs cs }
+
+-- ---- the numbers of a list in turn
+
+-- A part of a list from its first number on has the same number at i.
+pub from_first : (xs : List ℕ) (m n i : ℕ) → m ≡ 0 → i < n → get_or (take n (drop m xs)) i 0 ≡ get_or xs i 0
+from_first xs m n i e h = let same : m + i ≡ i = omega arith in rw (get_or-take n (drop m xs) i 0 h, get_or-drop m xs i 0, same) refl
 
 -- ---- one byte
 

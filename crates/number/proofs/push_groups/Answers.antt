@@ -1,9 +1,9 @@
 -- `number::push_groups` meets its contract: of what is left there is more than one group before the last place, and one at it.
 use Rattle.std.proofs.Common.{arith}
 use mathlib.Core.Path.{◌≡◌, refl, ap, ◌∙◌}
-use Prim.Native.Nat.{ℕ, suc, ◌+◌, ◌-◌, ◌≤◌, ◌<◌}
-use native.Mathlib.Numerals.{add-one}
-use lib.ListN.{length}
+use mathlib.Core.List.{List}
+use Prim.Native.Nat.{ℕ, suc, ◌+◌, ◌/◌, ◌%◌, ◌≤◌, ◌<◌}
+use lib.ListN.{length, set}
 use lib.Seq.{sets}
 use Rattle.number.specs.Number.{encode}
 use Rattle.number.proofs.Laws.{encode_last, encode_more, encode_some, encode_length}
@@ -30,13 +30,17 @@ one_group x h = (encode_length x 1 (omega arith)).0 h
 more_groups : (x : ℕ) → 1 < length (encode x) → 128 ≤ x
 more_groups x h = grind (arith, (encode_length x 1 (omega arith)).1)
 
+-- a group b with its top bit, where another follows
+sets_more : (log : List ℕ) (at : ℕ) {k b y : ℕ} (x : ℕ) → 128 ≤ x → b ≡ x % 128 + 128 → y ≡ x / 128 → k ≡ suc at
+    → sets (set log at b) k (encode y) ≡ sets log at (encode x)
+sets_more log at x h p q r = rw (p, q, r, encode_more x h) refl
+
 pub loop-i-preserved : goal.loop-i-preserved
 loop-i-preserved g c =
-    let e = encode_more c.loop-i.rest (more_groups c.loop-i.rest (omega (arith, c.loop-i.invariant.same_end))) in
-    let k : c.args.at + suc c.loop-i.i ≡ suc (c.args.at + c.loop-i.i) = omega arith in
+    let more = more_groups c.loop-i.rest (omega (arith, c.loop-i.invariant.same_end)) in
     record {
-      same_log = rw (add-one, k) (rw e at c.loop-i.invariant.same_log);
-      same_end = omega (arith, ap length e, c.loop-i.invariant.same_end);
+      same_log = sets_more c.loop-i.log (c.args.at + c.loop-i.i) c.loop-i.rest more (grind arith) (omega arith) (omega arith) ∙ c.loop-i.invariant.same_log;
+      same_end = omega (arith, ap length (encode_more c.loop-i.rest more), c.loop-i.invariant.same_end);
     }
 
 pub overflow_cast-log-2 : goal.overflow_cast-log-2
@@ -45,12 +49,16 @@ overflow_cast-log-2 g c = omega (arith, one_group c.loop-i.rest (omega (arith, c
 pub bounds-log-at-2 : goal.bounds-log-at-2
 bounds-log-at-2 g c = omega (arith, encode_some c.args.x)
 
+-- the last group b, which has no top bit
+sets_last : (log : List ℕ) (at : ℕ) {k b : ℕ} (x : ℕ) → x < 128 → b ≡ x → k ≡ at → set log k b ≡ sets log at (encode x)
+sets_last log at x h p q = rw (p, q, encode_last x h) refl
+
 pub returns : goal.returns
 returns g c =
-    let some = encode_some c.args.x in
-    let e = encode_last c.loop-i.rest (one_group c.loop-i.rest (omega (arith, c.loop-i.invariant.same_end))) in
-    let k : c.args.at + (g.row.N - 1) ≡ c.args.at + c.loop-i.i = omega (arith, some) in
+    let last = one_group c.loop-i.rest (omega (arith, c.loop-i.invariant.same_end)) in
     record {
       value = omega arith;
-      log_after = rw k ((rw e at c.loop-i.invariant.same_log) ∙ sets_written c.args.log.now c.args.at c.args.x (encode c.args.x) refl (omega arith));
+      log_after = sets_last c.loop-i.log (c.args.at + c.loop-i.i) c.loop-i.rest last (grind (arith, encode_some c.args.x)) (omega (arith, encode_some c.args.x))
+          ∙ c.loop-i.invariant.same_log
+          ∙ sets_written c.args.log.now c.args.at c.args.x (encode c.args.x) refl (omega arith);
     }

@@ -12,7 +12,7 @@ overflow_add-a-end c =
 pub loop-a-init : goal.loop-a-init
 loop-a-init c =
     let w = between c.requires c.split_sum-sum.ensures c.saturating_sub-low.ensures c.min-high.ensures in
-    (w, refl, omega arith, omega (arith, w.some), refl, refl, none_yet _ _, c.are_long-long.ensures)
+    (w, refl, omega arith, omega (arith, w.some), refl, refl, none_yet _ _ _ (omega arith), c.are_long-long.ensures)
 
 pub write_split-p-requires : goal.write_split-p-requires
 write_split-p-requires c =
