@@ -29,8 +29,8 @@ after {p} {q} {r} {bs} {cs} h k = record { is = k.is ∙ ap (λ (a : Page). prin
 -- ---- the numbers of a list in turn
 
 -- A part of a list from its first number on has the same number at i.
-pub from_first : (xs : List ℕ) (m n i : ℕ) → m ≡ 0 → i < n → get_or (take n (drop m xs)) i 0 ≡ get_or xs i 0
-from_first xs m n i e h = let same : m + i ≡ i = omega arith in rw (get_or-take n (drop m xs) i 0 h, get_or-drop m xs i 0, same) refl
+pub get_or_part : (xs : List ℕ) (m n i : ℕ) → m ≡ 0 → i < n → get_or (take n (drop m xs)) i 0 ≡ get_or xs i 0
+get_or_part xs m n i e h = let same : m + i ≡ i = omega arith in rw (get_or-take n (drop m xs) i 0 h, get_or-drop m xs i 0, same) refl
 
 -- ---- one byte
 

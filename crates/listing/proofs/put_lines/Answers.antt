@@ -2,7 +2,7 @@ use Rattle.std.proofs.Common.{◌≡◌, ℕ, ◌+◌, ◌<◌, List, length, ge
 use mathlib.Core.List.{map, flat_map}
 use Rattle.places.specs.Walk.{clause_at}
 use Rattle.text.specs.Text.{Page, Prints}
-use Rattle.text.proofs.Laws.{after, nothing, from_first}
+use Rattle.text.proofs.Laws.{after, nothing, get_or_part}
 use Rattle.listing.specs.Line.{line}
 use Rattle.listing.proofs.Turns.{lines_more, lines_all}
 use Rattle.listing.proofs.put_lines.Goals as goal
@@ -18,7 +18,7 @@ loop-place-init c = (nothing, omega arith)
 
 pub loop-place-preserved : goal.loop-place-preserved
 loop-place-preserved c =
-    (turn _ _ _ _ (omega arith) (omega (arith, from_first)) c.loop-place.invariant.0 c.put_line-end.ensures, c.loop-place.invariant.1)
+    (turn _ _ _ _ (omega arith) (omega (arith, get_or_part)) c.loop-place.invariant.0 c.put_line-end.ensures, c.loop-place.invariant.1)
 
 pub returns : goal.returns
 returns c = rw (lines_all c.args.log.now c.args.places.now c.loop-place.place-index (omega arith)) at c.loop-place.invariant.0

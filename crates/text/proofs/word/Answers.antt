@@ -1,7 +1,7 @@
 use Rattle.std.proofs.Common.{◌≡◌, ℕ, ◌+◌, ◌<◌, List, [], ◌∷◌, length, get_or, take, arith, add-one}
 use lib.Seq.{take-suc}
 use Rattle.text.specs.Text.{Page, Prints}
-use Rattle.text.proofs.Laws.{nothing, after, from_first}
+use Rattle.text.proofs.Laws.{nothing, after, get_or_part}
 use Rattle.text.proofs.word.Goals as goal
 
 -- The turn of the byte b, which stands at i.
@@ -13,4 +13,4 @@ loop-b-init c = (nothing, omega arith)
 
 pub loop-b-preserved : goal.loop-b-preserved
 loop-b-preserved c =
-    (turn _ _ _ (omega arith) (omega (arith, from_first)) c.loop-b.invariant.0 c.put-end.ensures, c.loop-b.invariant.1)
+    (turn _ _ _ (omega arith) (omega (arith, get_or_part)) c.loop-b.invariant.0 c.put-end.ensures, c.loop-b.invariant.1)
